@@ -1,0 +1,4 @@
+pub mod Fit
+pub mod Kinds
+pub mod Layouts
+pub mod Values

@@ -1,0 +1,142 @@
+//! Layouts: a path and the columns of its rows.
+ghost use Rattle.std.specs.Prelude.{◌≡◌, ◌≤◌, ◌+◌, ◌^◌, [], length, MatchResult, IfOk, is_none, IsTrue};
+ghost use Rattle.vast_value.specs.Layouts.{layout_fault, columns_fault, column_fault, is_named};
+
+use crate::bytes::Bytes;
+use crate::column::Column;
+use crate::sequence::Seq;
+use std::alloc::{AllocError, Global};
+
+/// The columns of a layout, in order.
+pub type Columns = Seq<Column>;
+
+/// Why a path and columns are no layout. Columns count from 1.
+#[derive(Clone, Copy, Debug, PartialEq, Eq)]
+pub enum BadLayout {
+    EmptyPath,
+    NoColumns,
+    /// There is a column 257.
+    TooManyColumns,
+    EmptyName { column: u32 },
+    /// An earlier column has this name.
+    SameName { column: u32 },
+}
+
+/// A path and 1 to 256 columns, whose names are not empty and differ.
+#[derive(Debug, Drop)]
+pub struct Layout {
+    path: Bytes,
+    columns: Columns,
+    ghost valid: { IsTrue (is_none (layout_fault path columns)) },
+}
+
+impl Layout {
+    /// The layout of a path and columns. Each [`BadLayout`] comes exactly where its check is the first that fails: an
+    /// empty path, no columns, and then column by column that it is not the 257th, has a name, and has no earlier
+    /// column's name.
+    #[tactic(auto, unfolding(crate::specs::Layouts::layout_fault))]
+    pub fn new(path: Bytes, columns: Columns) -> Result<Layout, BadLayout>
+        requires { length path ≤ 2 ^ 24 }
+        ensures made { IfOk result (λ layout. (layout.path ≡ path) × (layout.columns ≡ columns)) }
+        ensures fault { MatchResult result (λ _. layout_fault path columns ≡ None) (λ fault. layout_fault path columns ≡ Some fault) }
+    {
+        match layout_fault(path.as_slice(), columns.as_slice()) {
+            Some(fault) => Err(fault),
+            None => Ok(Layout { path, columns }),
+        }
+    }
+
+    /// The path.
+    pub fn path(&self) -> &[u8]
+        ensures { result.now ≡ self.now.path }
+    {
+        self.path.as_slice()
+    }
+
+    /// The columns, in order.
+    pub fn columns(&self) -> &[Column]
+        ensures { result.now ≡ self.now.columns }
+    {
+        self.columns.as_slice()
+    }
+
+    /// An equal copy.
+    pub fn duplicate(&self, alloc: Global) -> Result<Layout, AllocError>
+        ensures { IfOk result (λ copy. copy ≡ self.now) }
+    {
+        let path = self.path.duplicate(alloc)?;
+        let columns = self.columns.duplicate(alloc)?;
+        Ok(Layout { path, columns })
+    }
+}
+
+impl Seq<Column> {
+    /// An equal copy.
+    pub fn duplicate(&self, alloc: Global) -> Result<Columns, AllocError>
+        ensures { IfOk result (λ copy. copy ≡ self.now) }
+    {
+        let columns = self.as_slice();
+        let mut copy = Seq::with_capacity(alloc, columns.len())?;
+        for column in columns {
+            copy.push(duplicate_column(alloc, column)?)?;
+        }
+        Ok(copy)
+    }
+}
+
+fn duplicate_column(alloc: Global, column: &Column) -> Result<Column, AllocError>
+    ensures { IfOk result (λ copy. copy ≡ column.now) }
+{
+    let name = column.name.duplicate(alloc)?;
+    Ok(Column {
+        name,
+        kind: column.kind,
+    })
+}
+
+#[tactic(auto, unfolding(crate::specs::Layouts::layout_fault))]
+fn layout_fault(path: &[u8], columns: &[Column]) -> Option<BadLayout>
+    ensures { result ≡ layout_fault path.now columns.now }
+{
+    if path.is_empty() {
+        return Some(BadLayout::EmptyPath);
+    }
+    if columns.is_empty() {
+        return Some(BadLayout::NoColumns);
+    }
+    columns_fault(columns)
+}
+
+fn columns_fault(columns: &[Column]) -> Option<BadLayout>
+    ensures { result ≡ columns_fault 1 [] columns.now }
+{
+    for (at, column) in columns.iter().enumerate() {
+        let fault = column_fault(at, &columns[..at], column);
+        if fault.is_some() {
+            return fault;
+        }
+    }
+    None
+}
+
+fn column_fault(at: usize, before: &[Column], column: &Column) -> Option<BadLayout>
+    ensures { result ≡ column_fault (at + 1) before.now column.now }
+{
+    if at >= 256 {
+        return Some(BadLayout::TooManyColumns);
+    }
+    let number = at as u32 + 1;
+    if column.name.as_slice().is_empty() {
+        return Some(BadLayout::EmptyName { column: number });
+    }
+    if is_named(column.name.as_slice(), before) {
+        return Some(BadLayout::SameName { column: number });
+    }
+    None
+}
+
+fn is_named(name: &[u8], columns: &[Column]) -> bool
+    ensures { result ≡ is_named name.now columns.now }
+{
+    columns.iter().any(|column| column.name.as_slice() == name)
+}

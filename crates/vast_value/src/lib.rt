@@ -1,0 +1,77 @@
+//! Typed values, cells, rows and layouts: the types that every other crate speaks in.
+//!
+//! Contracts see a [`Bytes`] as a list of bytes, a [`Row`] as a list of cells and a [`Cells`] as a list of optional
+//! values, whatever they keep in memory.
+#![tactic(auto)]
+
+mod bytes;
+mod cell;
+mod column;
+mod fit;
+mod kind;
+mod layout;
+mod net;
+mod row;
+mod sequence;
+mod value;
+
+pub use bytes::Bytes;
+pub use cell::{Cell, Cells};
+pub use column::Column;
+pub use fit::fits;
+pub use kind::{Elem, Kind};
+pub use layout::{BadLayout, Columns, Layout};
+pub use net::Net;
+pub use row::Row;
+pub use sequence::Seq;
+pub use value::Value;
+
+#[cfg(test)]
+mod tests {
+    use super::*;
+    use std::alloc::{AllocError, Global};
+    use std::test::Fail;
+
+    fn one_column(alloc: Global) -> Result<Columns, AllocError> {
+        let name = Bytes::copy(alloc, b"n")?;
+        let mut columns = Columns::new(alloc);
+        columns.push(Column {
+            name,
+            kind: Kind::SetOf(Elem::Text),
+        })?;
+        Ok(columns)
+    }
+
+    fn one_row(alloc: Global) -> Result<Row, AllocError> {
+        let mut cells = Cells::with_capacity(alloc, 2)?;
+        cells.push(None)?;
+        cells.push(Some(Value::Text(Bytes::copy(alloc, b"a")?)))?;
+        let mut row = Row::new(alloc);
+        row.push(Cell::Many(cells))?;
+        Ok(row)
+    }
+
+    #[test]
+    fn a_text_grows_past_its_place(rt: HostRuntime) -> Result<(), Fail> {
+        let mut text = Bytes::copy(rt.alloc(), b"uid")?;
+        text.push(b'0')?;
+        text.append(b"123456789012345678901234567890")?;
+        let copy = text.duplicate(rt.alloc())?;
+        assert_eq!(rt;
+            copy.as_slice(),
+            b"uid0123456789012345678901234567890".as_slice()
+        );
+        Ok(())
+    }
+
+    #[test]
+    fn a_row_and_its_copy_fit_the_layouts_copy(rt: HostRuntime) -> Result<(), Fail> {
+        let path = Bytes::copy(rt.alloc(), b"p")?;
+        let Ok(layout) = Layout::new(path, one_column(rt.alloc())?) else {
+            return Err("no layout".into());
+        };
+        let row = one_row(rt.alloc())?.duplicate(rt.alloc())?;
+        assert!(rt; fits(&layout.duplicate(rt.alloc())?, &row));
+        Ok(())
+    }
+}
