@@ -1,2 +1,4 @@
 pub mod ByteLemmas
+pub mod HeadingLemmas
 pub mod NetLemmas
+pub mod RowLemmas

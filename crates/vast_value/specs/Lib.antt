@@ -1,4 +1,5 @@
 pub mod Fit
+pub mod Headings
 pub mod Kinds
 pub mod Layouts
 pub mod Values
