@@ -22,11 +22,12 @@ pub enum BadLayout {
     SameName { column: u32 },
 }
 
-/// A path and 1 to 256 columns, whose names are not empty and differ.
+/// A path of 1 to 2^24 bytes and 1 to 256 columns, whose names are not empty and differ.
 #[derive(Debug, Drop)]
 pub struct Layout {
     path: Bytes,
     columns: Columns,
+    ghost short: { length path ≤ 2 ^ 24 },
     ghost valid: { IsTrue (is_none (layout_fault path columns)) },
 }
 

@@ -1,0 +1,10 @@
+use Rattle.std.proofs.Common.{◌≡◌, map, drop}
+use Rattle.std.specs.List.{list_any}
+use Rattle.vast_value.specs.Headings.{field_of}
+use Rattle.query_meaning.specs.Meaning.{meets, named_cells}
+use Rattle.query_meaning.proofs.meaning.named_meets.Given as goal
+
+abbrev pub invariant-loop-at : goal.invariant-loop-at
+invariant-loop-at l =
+    list_any (meets l.test.rel l.test.literal) (named_cells l.layout.path (map field_of (drop l.at l.columns)) (drop l.at l.cells) l.name)
+    ≡ list_any (meets l.test.rel l.test.literal) (named_cells l.layout.path (map field_of l.layout.columns) l.cells l.name)

@@ -1,0 +1,4 @@
+pub mod Ahead
+pub mod HeadLemmas
+pub mod LineLemmas
+pub mod RowLemmas
