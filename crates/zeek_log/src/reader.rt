@@ -60,6 +60,7 @@ impl ZeekReader {
         ensures started { is_fresh self.new ≡ false }
         ensures fits { IfOk result (λ step. StepFits (last_columns self.old) (last_columns self.new) step) }
         ensures failed { is_fresh self.old ≡ true → IsErrOf result ZeekEnd.ReadFault → Rose (S.faults source.old) (S.faults source.new) }
+        ensures ahead { is_fresh self.old ≡ true → (coming self.new (ended ZeekEnd.Done)).end ≡ ZeekEnd.ReadFault → Rose (S.faults source.old) (S.faults source.new) }
         ensures tells { is_some (S.left source.new) ≡ is_some (S.left source.old) }
         ensures later { S.faults source.old ≤ S.faults source.new }
     {

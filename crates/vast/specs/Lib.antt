@@ -1,0 +1,5 @@
+pub mod Causes
+pub mod Queries
+pub mod Scanning
+pub mod Texts
+pub mod Words
