@@ -1,0 +1,4 @@
+mod Keeps
+mod Lines
+mod Lists
+mod Turning

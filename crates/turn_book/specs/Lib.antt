@@ -1,0 +1,4 @@
+pub mod Histories
+pub mod Standings
+pub mod Steps
+pub mod Turns
