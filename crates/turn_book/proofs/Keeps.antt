@@ -118,14 +118,14 @@ pub carried_same : {S : Type 0} (x y : S) (c d : List (ℕ × Option S)) → (0,
 carried_same x y c d e = ap (first_held x) e
 
 module _ (E F S : Type 0) (history : S → List E) (frame : S → F) (maker : E → ℕ) (fr : F) where
-  abbrev St : Type 0
+  abbrev pub St : Type 0
   St = State (Option S) (View E F)
 
-  abbrev Rule : St → Type 0
+  abbrev pub Rule : St → Type 0
   Rule = Turns history frame maker fr
 
   -- what a step owes, at these words
-  abbrev Goes : St → ℕ → Mine E F S → ℕ → (ℕ → ℕ) → (ℕ → Mine E F S → Type 0) → List ℕ → Type 0
+  abbrev pub Goes : St → ℕ → Mine E F S → ℕ → (ℕ → ℕ) → (ℕ → Mine E F S → Type 0) → List ℕ → Type 0
   Goes s id me i f then ws = (w : View E F) × (a : Act (Option S)) × Valid s.homes me.1 a
       × Rule record { words = set ws i (f (get_or ws i 0)); homes = homes_after s.homes me.1 a; views = set s.views id w } × then (get_or ws i 0) (w, carried_after me.1 a)
 

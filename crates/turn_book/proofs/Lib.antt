@@ -1,4 +1,7 @@
 mod Keeps
 mod Lines
 mod Lists
+mod Names
+mod Owned
+mod Splitting
 mod Turning

@@ -63,6 +63,10 @@ module _ {E F : Type 0} where
 abbrev pub spent : (E F : Type 0) → View E F
 spent E F = record { stage = Idle; seat = 0; names = []; seen = []; frame = None; made = 0; away = []; mine = nothing_known; theirs = nothing_known }
 
+-- the view after a turn, which has seen this history
+abbrev pub rested : {E F : Type 0} → View E F → List E → View E F
+rested v h = record v { stage = Idle; seen = h; mine = nothing_known; theirs = nothing_known }
+
 -- what the root learns of its own view by a look
 pub record Learnt {E F : Type 0} (maker : E → ℕ) (v : View E F) : Type 0 where
   pub shared : length v.names + length v.away ≡ v.made + 1

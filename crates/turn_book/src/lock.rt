@@ -1,11 +1,12 @@
 //! The steps of one turn, and the whole of it.
 ghost use Rattle.std.specs.Prelude.{◌≡◌, ◌≢◌, ℕ, [], ◌∷◌, IsSome, IsTrue, IsFalse, Some, None};
 ghost use Rattle.turn_book.specs.declared.view.Stage.TheVariants.{Idle, Waits, Holds, Left};
-ghost use Rattle.turn_book.specs.Steps.{Serves, Gives, IsAtRest, Learnt};
+ghost use Rattle.turn_book.specs.Standings.{standing_of, NeedHolds, Turned};
+ghost use Rattle.turn_book.specs.Steps.{Serves, Gives, IsAtRest, rested};
 ghost use Rattle.turn_book.specs.Turns.{staged, left};
 
-use crate::told::History;
-use crate::view::{Drawing, InTurn, Learning, Looking, Passing, Tallying, View};
+use crate::told::{History, Move};
+use crate::view::{Drawing, InTurn, Looking, Passing, Tallying, View};
 use atomic_table::{Seat, Shared};
 use std::hint;
 use std::snapshot::Snapshot;
@@ -128,4 +129,31 @@ fn pass_on<S: History>(hall: &Hall<S>, place: &mut Place<S>)
     if hall.peek(TICKET) != served.wrapping_add(1) {
         hall.wake_all(SERVING);
     }
+}
+
+/// One whole turn. `number` is the seat's.
+pub fn turn_at<S: History, M: Move<S>, R: Wait>(
+    rt: &R,
+    hall: &Hall<S>,
+    place: &mut Place<S>,
+    number: u32,
+    step: M,
+) -> M::Answer
+    requires hall { (place.old.table_id ≡ hall.now.table_id) × (hall.now.table_id.words ≡ 3) }
+    requires rests { IsAtRest number place.old.me }
+    requires needs { NeedHolds M.needs step (standing_of place.old.me.0) }
+    ensures same { (place.new.table_id ≡ place.old.table_id) × (place.new.id ≡ place.old.id) }
+    ensures rests { place.new.me ≡ (rested place.old.me.0 place.new.me.0.seen, []) }
+    ensures turned { Turned S.maker M.needs M.does step (standing_of place.old.me.0) (standing_of place.new.me.0) result }
+{
+    let ticket = draw(hall, place);
+    wait(rt, hall, place, ticket);
+    let mut state = take(hall, place);
+    let before = state.told();
+    let answer = step.act(number, &mut state);
+    let after = state.told();
+    put(hall, place, state);
+    tally(hall, place, after - before);
+    pass_on(hall, place);
+    answer
 }
