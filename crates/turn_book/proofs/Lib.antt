@@ -1,3 +1,4 @@
+mod Booking
 mod Keeps
 mod Lines
 mod Lists
