@@ -34,7 +34,7 @@ module _ (E F S : Type 0) where
   joined_root maker v w number out a b e f learnt named idle seat first live shared = let g = subst (λ (x : Mine E F S). Learnt maker x.0) f learnt in let all = g.shared in
       let long : length (v.names ++ w.names) ≡ length v.names + 1 = length-append v.names w.names ∙ ap (λ (l : List ℕ). length v.names + length l) named in
       subst (λ (x : Mine E F S). (x.0.stage ≡ Idle) × (x.1 ≡ []) × (x.0.seat ≡ 0) × (slice_get x.0.names 0 ≡ Some 0) × IsSome x.0.frame × (x.0.made ≡ v.made) × (length x.0.away ≡ out - 1) × (length x.0.names + (out - 1) ≡ v.made + 1))
-          (sym (e ∙ f)) (idle, refl, seat, first_append 0 v.names w.names first, live, refl, omega arith, omega arith)
+      (sym (e ∙ f)) (idle, refl, seat, first_append 0 v.names w.names first, live, refl, omega arith, omega arith)
 
   pub joined_grows : (maker : E → ℕ) (v w : View E F) (c : List (ℕ × Option S)) (a b : Mine E F S) → a ≡ b → b ≡ (joined v w, c) → Learnt maker b.0 → GrowsByOthers maker v.names v.seen a.0.seen × GrowsByOthers maker w.names w.seen a.0.seen
   joined_grows maker v w c a b e f learnt = let g = subst (λ (x : Mine E F S). Learnt maker x.0) f learnt in let le = longer_not_shorter E maker v.seen w.seen in

@@ -4,6 +4,8 @@
 mod book;
 mod lock;
 mod seats;
+#[cfg(test)]
+mod tests;
 mod told;
 mod view;
 

@@ -16,7 +16,7 @@ pub invariant_of-root : goal.invariant_of-root
 invariant_of-root g c = let root = c.args.root.now in let pass = c.args.pass in
     let made = root.counts_made in
     let after = joined_root _ _ g.row.S.Denot g.S.History.maker root.place.me.0 pass.place.me.0 pass.number root.out _ _ c.load.ensures.2.0 (c.join_seat.ensures.2 ∙ ap (λ l. (joined root.place.me.0 pass.place.me.0, l)) root.empty) c.load.ensures.2.1
-        pass.named root.idle root.seated root.named root.framed (root.shared ∙ ap (λ k. k + 1) (sym made)) in record {
+    pass.named root.idle root.seated root.named root.framed (root.shared ∙ ap (λ k. k + 1) (sym made)) in record {
       first = c.load.ensures.1 ∙ (c.join_seat.ensures.1 ∙ root.first);
       idle = after.0;
       empty = after.1;
