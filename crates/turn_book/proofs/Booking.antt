@@ -6,7 +6,7 @@ use Rattle.atomic_table.specs.Table.{Final, Seen, opening}
 use Rattle.turn_book.specs.declared.view.Stage.TheVariants.{Idle}
 use Rattle.turn_book.specs.declared.view.View.{View}
 use Rattle.turn_book.specs.Histories.{Outside, GrowsByOthers, longer, own_of}
-use Rattle.turn_book.specs.Steps.{Mine, joined, Learnt}
+use Rattle.turn_book.specs.Steps.{Mine, newcomer, joined, Learnt}
 use Rattle.turn_book.specs.Turns.{Turns, root_view}
 use Rattle.turn_book.proofs.Names.{single, longer_not_shorter}
 use Rattle.turn_book.proofs.Owned.{own-others}
@@ -25,8 +25,11 @@ module _ (E F S : Type 0) where
   idle_along a b k e idle lt = subst (λ (x : Mine E F S). (x.0.stage ≡ Idle) × (x.0.made < k)) (sym e) (idle, lt)
 
   -- a new seat has made nothing
-  pub nothing_made : (maker : E → ℕ) (v : View E F) → Learnt maker v → own_of maker ((v.made + 1) ∷ []) v.seen ≡ []
+  nothing_made : (maker : E → ℕ) (v : View E F) → Learnt maker v → own_of maker ((v.made + 1) ∷ []) v.seen ≡ []
   nothing_made maker v h = own-others E maker ((v.made + 1) ∷ []) v.seen (λ i d lt c. let low = h.below i d lt in let is : maker (get_or v.seen i d) ≡ v.made + 1 = single (v.made + 1) _ c in omega arith)
+
+  pub pass_made_nothing : (maker : E → ℕ) (a b r : Mine E F S) → b ≡ a → r ≡ (newcomer b.0, []) → Learnt maker a.0 → own_of maker r.0.names r.0.seen ≡ []
+  pass_made_nothing maker a b r e f h = subst (λ (x : Mine E F S). own_of maker x.0.names x.0.seen ≡ []) (sym (f ∙ ap (λ (x : Mine E F S). (newcomer x.0, [])) e)) (nothing_made maker a.0 h)
 
   -- the root once it has taken in a pass
   pub joined_root : (maker : E → ℕ) (v w : View E F) (number out : ℕ) (a b : Mine E F S) → a ≡ b → b ≡ (joined v w, []) → Learnt maker b.0 → w.names ≡ number ∷ [] → v.stage ≡ Idle → v.seat ≡ 0 → slice_get v.names 0 ≡ Some 0 → IsSome v.frame → length v.names + out ≡ v.made + 1

@@ -3,6 +3,6 @@ mod Keeps
 mod Lines
 mod Lists
 mod Names
-mod Owned
+pub mod Owned
 mod Splitting
 mod Turning

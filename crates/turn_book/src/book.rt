@@ -1,4 +1,4 @@
-//! The book, which keeps the state.
+//! The book, which keeps the state, and all that is done with it.
 ghost use Rattle.std.specs.Prelude.{◌≡◌, ◌+◌, ◌<◌, [], ◌∷◌, ◌++◌, All, Contains, IfOk, IsOkAnd, Some};
 
 use crate::lock::TICKET;
@@ -10,7 +10,9 @@ use std::alloc::{AllocError, Global};
 use std::snapshot::Snapshot;
 use std::sync::Wait;
 
-/// A state under a ticket lock. Threads share it by reference.
+/// A state under a ticket lock, which threads share by reference.
+///
+/// The state's history is one: what a pass has seen is a beginning of it, and each turn adds to its end.
 #[derive(Drop)]
 pub struct Book<S: History> {
     pub(crate) table: Table<
@@ -63,18 +65,19 @@ impl<S: Told> Book<S> {
         ensures book { root_book root.new ≡ root_book root.old }
         ensures root { root_standing root.new ≡ record (root_standing root.old) { made = (root_standing root.old).made + 1; out = (root_standing root.old).out + 1 } }
         ensures pass { IsOkAnd result (λ pass. (pass_book pass ≡ root_book root.old) × (pass_standing pass ≡ new_standing ((root_standing root.old).made + 1) (root_standing root.old).seen (root_standing root.old).frame)) }
-        ensures nothing { own_of S.maker (((root_standing root.old).made + 1) ∷ []) (root_standing root.old).seen ≡ [] }
+        ensures nothing_made { IsOkAnd result (λ pass. own_of S.maker (pass_standing pass).names (pass_standing pass).seen ≡ []) }
     {
         Ok(self.cut(root))
     }
 
+    // The root learns by a look that no entry that it has seen is of the new seat.
     fn cut(&self, root: &mut Root<S>) -> Pass<S>
         requires book { root_book root.old ≡ book_id self.now }
         requires room { (root_standing root.old).made < 4294967295 }
         ensures book { root_book root.new ≡ root_book root.old }
         ensures root { root_standing root.new ≡ record (root_standing root.old) { made = (root_standing root.old).made + 1; out = (root_standing root.old).out + 1 } }
         ensures pass { (pass_book result ≡ root_book root.old) × (pass_standing result ≡ new_standing ((root_standing root.old).made + 1) (root_standing root.old).seen (root_standing root.old).frame) }
-        ensures nothing { own_of S.maker (((root_standing root.old).made + 1) ∷ []) (root_standing root.old).seen ≡ [] }
+        ensures nothing_made { own_of S.maker (pass_standing result).names (pass_standing result).seen ≡ [] }
     {
         let hall = &self.table.shared;
         hall.load::<Learning<S>>(&mut root.place, TICKET);
@@ -106,7 +109,7 @@ impl<S: Told> Book<S> {
         root.out -= 1;
     }
 
-    /// The state, once all passes are joined.
+    /// The state, once all passes are joined. Its history is what the root has seen, and the root's names made all of it.
     pub fn close(self, root: Root<S>) -> S
         requires book { root_book root ≡ book_id self }
         requires out { (root_standing root).out ≡ 0 }
@@ -128,6 +131,10 @@ impl<S: Told> Book<S> {
     }
 
     /// One turn: waits until the seat is served, has the move act on the state, and passes the turn on.
+    ///
+    /// The history that the move finds begins with all that the pass had seen, and goes on with entries of seats
+    /// that aren't the pass's own. The move's need holds there, and its answer and its entries are those of its meaning
+    /// there. Then the pass has seen the history that the move left. It has no answer of its own.
     pub fn turn<M: Move<S>, P: Turner<S>, R: Wait>(
         &self,
         rt: &R,
