@@ -1,11 +1,11 @@
 -- What the calls of a book owe and learn, over the values of their seats.
-use Rattle.std.proofs.Common.{◌≡◌, ℕ, ◌+◌, ◌-◌, ◌<◌, ◌≤◌, List, [], ◌∷◌, ◌++◌, length, get_or, All, Contains, IsSome, Option, Some, None, slice_get, sym, refl, ap, subst, ◌∙◌, length-append, arith}
+use Rattle.std.proofs.Common.{◌≡◌, ℕ, ◌+◌, ◌-◌, ◌<◌, List, [], ◌∷◌, ◌++◌, length, get_or, All, Contains, IsSome, Option, Some, slice_get, sym, refl, ap, subst, ◌∙◌, length-append, arith}
 use lib.ListN.{get_elem?}
 use mathlib.Core.Option as m
 use Rattle.atomic_table.specs.Table.{Final, Seen, opening}
 use Rattle.turn_book.specs.declared.view.Stage.TheVariants.{Idle}
 use Rattle.turn_book.specs.declared.view.View.{View}
-use Rattle.turn_book.specs.Histories.{Outside, GrowsByOthers, longer, own_of}
+use Rattle.turn_book.specs.Histories.{GrowsByOthers, own_of}
 use Rattle.turn_book.specs.Steps.{Mine, newcomer, joined, Learnt}
 use Rattle.turn_book.specs.Turns.{Turns, root_view}
 use Rattle.turn_book.proofs.Names.{single, longer_not_shorter}

@@ -1,20 +1,20 @@
 -- Each step of a turn keeps the rule.
-use Rattle.std.proofs.Common.{◌≡◌, ◌≢◌, ℕ, zero, suc, ◌+◌, ◌%◌, ◌<◌, ◌≤◌, ◌⊎◌, List, [], ◌∷◌, ◌++◌, length, get_or, set, All, Contains, IsSome, Option, Some, None, sym, refl, ap, subst, ◌∙◌, inl, inr, ⊎_elim, append_assoc, append-nil, length-set, length-append, arith}
+use Rattle.std.proofs.Common.{◌≡◌, ◌≢◌, ℕ, ◌+◌, ◌%◌, ◌<◌, ◌⊎◌, List, [], ◌∷◌, ◌++◌, length, get_or, set, All, Contains, IsSome, Option, Some, None, sym, refl, ap, subst, ◌∙◌, ⊎_elim, append_assoc, append-nil, length-set, arith}
 use mathlib.Core.Option as m
 use mathlib.Core.Option.{some-injective, some-ne-none}
 use native.Mathlib.Decide.{ℕ_discrete}
 use lib.ListN.{get_elem?}
 use Rattle.std.proofs.lemmas.List.Elements.{All-nil, All-append, All-weaker}
 use Rattle.atomic_table.proofs.Lists.{at_set, set_here, set_else, set_again}
-use Rattle.atomic_table.specs.Table.{State, Act, keeps, takes, gives, Step, step, carried_after, homes_after, Valid, Allows}
+use Rattle.atomic_table.specs.Table.{State, Act, keeps, takes, gives, step, carried_after, homes_after, Valid, Allows}
 use Rattle.turn_book.specs.declared.view.Stage.{Stage}
 use Rattle.turn_book.specs.declared.view.Stage.TheVariants.{Idle, Waits, Holds, Left}
 use Rattle.turn_book.specs.declared.view.View.{View}
 use Rattle.turn_book.specs.Histories.{Outside, GrowsByOthers}
-use Rattle.turn_book.specs.Steps.{Mine, drew, passed, looked, tallied, Found, Gives}
-use Rattle.turn_book.specs.Turns.{ring, ticket_of, weight, IsHolding, Stands, At, nothing_known, staged, held, left, holders, Line, NoneHolds, Knows, Rooted, Ranks, Lies, Turns}
+use Rattle.turn_book.specs.Steps.{Mine, drew, passed, looked, tallied, Gives}
+use Rattle.turn_book.specs.Turns.{ring, ticket_of, weight, IsHolding, Stands, At, staged, held, left, Line, NoneHolds, Knows, Rooted, Ranks, Lies, Turns}
 use Rattle.turn_book.proofs.Lists.{each, pairs, index_below}
-use Rattle.turn_book.proofs.Lines.{draws, stays, passes, one_holder, rank_of}
+use Rattle.turn_book.proofs.Lines.{draws, stays, passes, one_holder}
 
 -- a history that others made longer, and one more entry list of others
 pub grows_more : {E : Type 0} (maker : E → ℕ) (names : List ℕ) (seen log log' new : List E) → log' ≡ log ++ new → Outside maker names new → GrowsByOthers maker names seen log → GrowsByOthers maker names seen log'

@@ -1,13 +1,12 @@
 -- The tickets of all views, when one view changes.
-use Rattle.std.proofs.Common.{◌≡◌, ◌≢◌, ℕ, zero, suc, ◌+◌, ◌%◌, ◌<◌, ◌≤◌, ◌⊎◌, List, [], ◌∷◌, ◌++◌, length, set, sym, refl, ap, subst, ◌∙◌, inl, inr, ⊎_elim, length-set, length-append, arith}
+use Rattle.std.proofs.Common.{◌≡◌, ◌≢◌, ℕ, zero, suc, ◌+◌, ◌%◌, ◌<◌, ◌≤◌, List, [], ◌∷◌, ◌++◌, length, set, sym, refl, ap, subst, ◌∙◌, length-set, length-append, arith}
 use mathlib.Core.Option as m
 use mathlib.Core.Option.{some-injective, some-ne-none}
-use lib.ListN.{get_elem?}
 use Rattle.turn_book.specs.declared.view.Stage.{Stage}
 use Rattle.turn_book.specs.declared.view.Stage.TheVariants.{Idle, Waits, Holds, Left}
 use Rattle.turn_book.specs.declared.view.View.{View}
 use Rattle.turn_book.specs.Turns.{ring, ticket_of, weight, IsHolding, Stands, At, holders, Line}
-use Rattle.turn_book.proofs.Lists.{each, pairs, each_end, pairs_end, index_below}
+use Rattle.turn_book.proofs.Lists.{each, pairs, each_end, pairs_end}
 
 weight_le_one : (s : Stage) → weight s ≤ 1
 weight_le_one Idle = omega arith

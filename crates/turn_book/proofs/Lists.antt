@@ -1,7 +1,6 @@
 -- Lists of views, of names and of entries.
-use Rattle.std.proofs.Common.{◌≡◌, ◌≢◌, ℕ, zero, suc, ◌+◌, ◌<◌, ◌≤◌, ◌⊎◌, List, [], ◌∷◌, ◌++◌, length, set, All, sym, refl, ap, subst, ◌∙◌, inl, inr, ⊎_elim, append_assoc, length-append, arith}
-use mathlib.Core.Option.{some, some-injective, some-ne-none}
-use lib.ListN.{get_elem?}
+use Rattle.std.proofs.Common.{◌≡◌, ◌≢◌, ℕ, zero, suc, ◌<◌, ◌≤◌, ◌⊎◌, List, [], ◌∷◌, ◌++◌, length, set, All, sym, refl, ap, subst, ◌∙◌, inl, inr, ⊎_elim, arith}
+use mathlib.Core.Option.{some-injective, some-ne-none}
 use Rattle.std.proofs.lemmas.List.Elements.{All-nil, All-cons, All-head, All-tail}
 use Rattle.atomic_table.proofs.Lists.{at_set}
 use Rattle.turn_book.specs.Turns.{At}

@@ -1,10 +1,9 @@
 -- The names of views, and which of two histories is the longer.
-use Rattle.std.proofs.Common.{◌≡◌, ◌≢◌, ℕ, zero, suc, ◌+◌, ◌<◌, ◌≤◌, ◌⊎◌, ◌==◌, Bool, true, false, if◌then◌else◌, List, [], ◌∷◌, ◌++◌, length, get_or, All, Contains, filter, sym, refl, ap, subst, ◌∙◌, inl, inr, ⊎_elim, length-append, lt_of_not-le, eq-eqb, ne_eqb, arith}
+use Rattle.std.proofs.Common.{◌≡◌, ◌≢◌, ℕ, zero, suc, ◌+◌, ◌<◌, ◌≤◌, ◌⊎◌, Bool, if◌then◌else◌, List, [], ◌∷◌, ◌++◌, length, get_or, Contains, sym, refl, ap, subst, ◌∙◌, inl, inr, ⊎_elim, lt_of_not-le, eq-eqb, ne_eqb, arith}
 use borrow.Author.Tests.{le-leb, lt-leb}
 use native.Mathlib.Decide.{ℕ_discrete, dec_le}
-use Rattle.std.specs.List.{list_any}
-use Rattle.std.proofs.lemmas.List.Elements.{All-head, All-tail, Contains-append_left, Contains-append_right, Contains-append_cases, filter-append}
-use Rattle.turn_book.specs.Histories.{Outside, GrowsByOthers, longer, own_of}
+use Rattle.std.proofs.lemmas.List.Elements.{Contains-append_left, Contains-append_right, Contains-append_cases}
+use Rattle.turn_book.specs.Histories.{Outside, GrowsByOthers, longer}
 use Rattle.turn_book.specs.Steps.{without}
 use Rattle.turn_book.proofs.Lists.{between, left_part, right_part}
 

@@ -1,8 +1,8 @@
 -- The entries of a history that some seats made.
-use Rattle.std.proofs.Common.{◌≡◌, ◌≢◌, ℕ, zero, suc, ◌<◌, ◌⊎◌, ◌==◌, ◌||◌, Bool, true, false, cond, List, [], ◌∷◌, ◌++◌, length, All, Contains, sym, refl, ap, subst, ◌∙◌, ⊎_elim, append-nil, eq-eqb, ne_eqb, arith}
+use Rattle.std.proofs.Common.{◌≡◌, ◌≢◌, ℕ, ◌==◌, ◌||◌, Bool, true, false, cond, List, [], ◌∷◌, ◌++◌, All, Contains, sym, refl, ap, subst, ◌∙◌, ⊎_elim, append-nil, eq-eqb, ne_eqb}
 use native.Mathlib.Decide.{ℕ_discrete}
 use Rattle.std.specs.List.{list_any}
-use Rattle.std.proofs.lemmas.List.Elements.{All-head, All-tail, Contains-append_left, Contains-append_right, Contains-append_cases, filter-append}
+use Rattle.std.proofs.lemmas.List.Elements.{All-head, All-tail, Contains-append_right, Contains-append_cases, filter-append}
 use Rattle.turn_book.specs.Histories.{Outside, own_of}
 use Rattle.turn_book.proofs.Names.{none_named, single, named_first}
 

@@ -1,5 +1,5 @@
 -- Split, join and the root's look keep the rule. The first state meets it, and the last one tells what `close` gives.
-use Rattle.std.proofs.Common.{◌≡◌, ◌≢◌, ℕ, zero, suc, ◌+◌, ◌%◌, ◌<◌, ◌≤◌, ◌⊎◌, List, [], ◌∷◌, ◌++◌, length, get_or, set, All, Contains, IsSome, Option, Some, None, sym, refl, ap, subst, ◌∙◌, inl, inr, ⊎_elim, append-nil, length-set, length-append, lt_of_not-le, arith}
+use Rattle.std.proofs.Common.{◌≡◌, ◌≢◌, ℕ, ◌+◌, ◌<◌, ◌⊎◌, List, [], ◌∷◌, ◌++◌, length, get_or, set, All, Contains, IsSome, Option, Some, None, sym, refl, ap, subst, ◌∙◌, inl, inr, ⊎_elim, append-nil, length-set, length-append, lt_of_not-le, arith}
 use mathlib.Core.Option as m
 use mathlib.Core.Option.{some-injective, some-ne-none}
 use lib.ListN.{get_elem?}
@@ -11,12 +11,12 @@ use Rattle.atomic_table.specs.Table.{State, keeps, step, Allows, Splits, Joins, 
 use Rattle.turn_book.specs.declared.view.Stage.TheVariants.{Idle}
 use Rattle.turn_book.specs.declared.view.View.{View}
 use Rattle.turn_book.specs.Histories.{Outside, GrowsByOthers, longer}
-use Rattle.turn_book.specs.Steps.{Mine, root_after, newcomer, joined, spent, without, Learnt, learnt}
-use Rattle.turn_book.specs.Turns.{ring, ticket_of, weight, IsHolding, Stands, At, nothing_known, root_view, Line, NoneHolds, Knows, Rooted, Ranks, Lies, Turns}
+use Rattle.turn_book.specs.Steps.{Mine, root_after, newcomer, joined, spent, without, learnt}
+use Rattle.turn_book.specs.Turns.{ticket_of, weight, IsHolding, Stands, At, root_view, Knows, Rooted, Lies, Turns}
 use Rattle.turn_book.proofs.Lists.{each, pairs, each_end, pairs_end, at_end, index_below, left_part, right_part, none_of}
 use Rattle.turn_book.proofs.Lines.{stays, comes}
-use Rattle.turn_book.proofs.Keeps.{Goes, same_keeps, ranks_on, lies_on, below_on, grows_none, grows_all}
-use Rattle.turn_book.proofs.Names.{none_named, single, named_first, without_keeps, length-without, between_grows, longer_grows, longer_not_shorter}
+use Rattle.turn_book.proofs.Keeps.{Goes, same_keeps, lies_on, below_on, grows_none, grows_all}
+use Rattle.turn_book.proofs.Names.{none_named, single, named_first, without_keeps, length-without, between_grows, longer_grows}
 
 -- the frame of a view that isn't spent
 abbrev pub or_else : {F : Type 0} → F → Option F → F

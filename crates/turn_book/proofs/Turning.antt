@@ -1,10 +1,10 @@
 -- The values of a seat in the course of one turn.
-use Rattle.std.proofs.Common.{◌≡◌, ℕ, ◌+◌, ◌-◌, ◌<◌, List, [], ◌∷◌, ◌++◌, length, All, Contains, IsSome, Option, Some, None, slice_get, sym, refl, ap, subst, ◌∙◌, length-append, arith}
+use Rattle.std.proofs.Common.{◌≡◌, ℕ, ◌+◌, ◌-◌, ◌<◌, List, [], ◌∷◌, ◌++◌, length, All, Contains, Some, None, slice_get, sym, refl, ap, subst, ◌∙◌, length-append, arith}
 use Rattle.std.proofs.lemmas.List.Elements.{All-weaker}
 use Rattle.turn_book.specs.declared.view.Stage.TheVariants.{Idle, Waits, Holds, Left}
 use Rattle.turn_book.specs.declared.view.View.{View}
 use Rattle.turn_book.specs.Histories.{Outside, own_of}
-use Rattle.turn_book.specs.Standings.{Standing, standing_of, NeedHolds, Turned}
+use Rattle.turn_book.specs.Standings.{standing_of, NeedHolds, Turned}
 use Rattle.turn_book.specs.Steps.{Mine, Found, Serves, Gives, IsAtRest, rested}
 use Rattle.turn_book.specs.Turns.{ring, staged, held, left}
 use Rattle.turn_book.proofs.Keeps.{carried_same}

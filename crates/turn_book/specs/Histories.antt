@@ -1,5 +1,5 @@
 -- Histories, which are lists of entries, and the seats that made the entries.
-use Rattle.std.specs.Prelude.{◌≡◌, ℕ, ◌==◌, List, [], ◌∷◌, ◌++◌, length, nat_le, if◌then◌else◌, All, Contains, filter}
+use Rattle.std.specs.Prelude.{◌≡◌, ℕ, ◌==◌, List, ◌++◌, length, nat_le, if◌then◌else◌, All, Contains, filter}
 use Rattle.std.specs.List.{list_any}
 
 -- none of the entries was made by one of these seats

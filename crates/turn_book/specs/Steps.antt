@@ -1,10 +1,9 @@
 -- What each step of the lock tells the seat that makes it.
 use Rattle.std.specs.Prelude.{◌≡◌, ◌≢◌, ℕ, ◌+◌, ◌≤◌, ◌<◌, ◌==◌, List, [], ◌∷◌, ◌++◌, length, if◌then◌else◌, All, Contains, IsSome, Option, Some, None, slice_get}
-use mathlib.Core.Option as m
-use Rattle.atomic_table.specs.Table.{State, Step, Me}
-use Rattle.turn_book.specs.declared.view.Stage.TheVariants.{Idle, Waits, Holds, Left}
+use Rattle.atomic_table.specs.Table.{Step, Me}
+use Rattle.turn_book.specs.declared.view.Stage.TheVariants.{Idle, Waits, Holds}
 use Rattle.turn_book.specs.declared.view.View.{View}
-use Rattle.turn_book.specs.Histories.{Outside, GrowsByOthers, longer}
+use Rattle.turn_book.specs.Histories.{GrowsByOthers, longer}
 use Rattle.turn_book.specs.Turns.{ring, staged, held, left, nothing_known}
 
 -- a seat's view, and the slots that it holds

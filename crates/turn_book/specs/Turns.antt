@@ -1,6 +1,6 @@
 -- The rule of the lock: what holds of its words, its slot and all views between any two steps.
 -- The words are ticket, serving and tally.
-use Rattle.std.specs.Prelude.{◌≡◌, ℕ, ◌+◌, ◌%◌, ◌<◌, ◌≤◌, ◌⊎◌, List, [], ◌∷◌, ◌++◌, length, All, Contains, IsSome, Option, Some, None}
+use Rattle.std.specs.Prelude.{◌≡◌, ℕ, ◌+◌, ◌%◌, ◌<◌, ◌≤◌, ◌⊎◌, List, [], ◌∷◌, length, All, Contains, IsSome, Option, Some, None}
 use mathlib.Core.Option as m
 use lib.ListN.{get_elem?}
 use Rattle.atomic_table.specs.Table.{State}
@@ -8,7 +8,7 @@ use Rattle.turn_book.specs.declared.view.Known.{Known}
 use Rattle.turn_book.specs.declared.view.Stage.{Stage}
 use Rattle.turn_book.specs.declared.view.Stage.TheVariants.{Idle, Waits, Holds, Left}
 use Rattle.turn_book.specs.declared.view.View.{View}
-use Rattle.turn_book.specs.Histories.{Outside, GrowsByOthers}
+use Rattle.turn_book.specs.Histories.{GrowsByOthers}
 
 -- the numbers of a word
 abbrev pub ring : ℕ

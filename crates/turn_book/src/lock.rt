@@ -8,9 +8,9 @@ ghost use Rattle.turn_book.specs.Turns.{staged, left};
 use crate::told::{History, Move};
 use crate::view::{Drawing, InTurn, Looking, Passing, Tallying, View};
 use atomic_table::{Seat, Shared};
-use std::hint;
 use std::snapshot::Snapshot;
 use std::sync::Wait;
+use std::thread;
 
 /// A seat at the table of a book.
 pub type Place<S> = Seat<Option<S>, View<<S as History>::Entry, <S as History>::Frame>>;
@@ -29,7 +29,7 @@ const SERVING: usize = 1;
 
 const TALLY: usize = 2;
 
-/// Looks before a thread that waits goes to sleep.
+// How often a thread that waits looks before it goes to sleep.
 const LOOKS: u32 = 100;
 
 fn draw<S: History>(hall: &Hall<S>, place: &mut Place<S>) -> u64
@@ -50,7 +50,7 @@ fn look<S: History>(hall: &Hall<S>, place: &mut Place<S>, ticket: u64) -> u64
     hall.load::<Looking<S>>(place, SERVING)
 }
 
-// Looks a few times, and says whether the seat is served.
+// Looks a few times, and lets other threads run between the looks. Says whether the seat is served.
 fn spin<S: History>(hall: &Hall<S>, place: &mut Place<S>, ticket: u64) -> bool
     requires { (place.old.table_id ≡ hall.now.table_id) × (hall.now.table_id.words ≡ 3) × (place.old.me.0.stage ≡ Waits ticket) × IsSome place.old.me.0.frame }
     ensures same { (place.new.table_id ≡ place.old.table_id) × (place.new.id ≡ place.old.id) }
@@ -61,7 +61,7 @@ fn spin<S: History>(hall: &Hall<S>, place: &mut Place<S>, ticket: u64) -> bool
         if look(hall, place, ticket) == ticket {
             return true;
         }
-        hint::spin_loop();
+        thread::yield_now();
     }
     false
 }
