@@ -1,0 +1,28 @@
+//! Measures parts of the program, for the scripts of bench/. It is no part of the product.
+#![tactic(auto)]
+
+mod turns;
+
+use std::env;
+use std::process::ExitCode;
+
+const USAGE: &str = "measure turns THREADS TURNS";
+
+fn main(rt: HostRuntime) -> anyhow::Result<ExitCode> {
+    let mut words = env::args(&rt)?;
+    let _program = words.next();
+    let what = words.next();
+    let what = what.as_ref().map(|word| word.as_str());
+    if what == Some("turns") {
+        let threads = words.next().and_then(|word| word.parse().ok());
+        let turns = words.next().and_then(|word| word.parse().ok());
+        if let (Some(threads), Some(turns)) = (threads, turns) {
+            let spent = turns::measure(&rt, rt.alloc(), threads, turns)?;
+            println!(rt; "book {}", spent.book.as_nanos())?;
+            println!(rt; "mutex {}", spent.mutex.as_nanos())?;
+            return Ok(ExitCode::SUCCESS);
+        }
+    }
+    println!(rt; "usage: {USAGE}")?;
+    Ok(ExitCode::from(1))
+}

@@ -1,0 +1,5 @@
+pub mod Histories
+pub mod Seats
+pub mod Standings
+pub mod Steps
+pub mod Turns
