@@ -1,0 +1,4 @@
+pub mod Keys
+pub mod Sightings
+pub mod Groups
+pub mod Steps
