@@ -1,1 +1,2 @@
-
+mod FlowLemmas
+mod PlaceLemmas

@@ -55,7 +55,7 @@ flow_of g =
       orig_packets = count_by from_originator all;
       orig_bytes = sum_by (λ s. bytes_if (from_originator s) s) all;
       resp_packets = count_by (λ s. not (from_originator s)) all;
-      resp_bytes = sum_by (λ s. bytes_if (not (from_originator s)) s) all
+      resp_bytes = sum_by (λ s. bytes_if (not (from_originator s)) s) all;
     }
 
 -- the flows of a list of packets, of which those with all parts belong to one

@@ -18,4 +18,4 @@ key_between source target protocol =
     else record { low = source; high = target; protocol = protocol }
 
 abbrev pub same_key : Key → Key → Bool
-same_key k l = same_end k.low l.low && same_end k.high l.high && k.protocol == l.protocol
+same_key k l = same_end k.low l.low && (same_end k.high l.high && k.protocol == l.protocol)

@@ -2,3 +2,4 @@ pub mod Keys
 pub mod Sightings
 pub mod Groups
 pub mod Steps
+pub mod Tracked

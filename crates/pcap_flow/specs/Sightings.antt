@@ -19,7 +19,7 @@ with_all (Some source) (Some source_port) (Some target) (Some target_port) (Some
       target = record { address = target; port = target_port };
       protocol = protocol;
       time = time;
-      original = original
+      original = original;
     })
 with_all _ _ _ _ _ time original = None
 
@@ -31,4 +31,4 @@ abbrev pub key_of : Sighting → Key
 key_of s = key_between s.source s.target s.protocol
 
 abbrev pub has_key : Key → Sighting → Bool
-has_key k s = same_key k (key_of s)
+has_key k s = same_key (key_of s) k

@@ -15,16 +15,16 @@ flow_key f = key_between f.source f.target f.protocol
 -- a flow of one packet
 abbrev pub begun : Sighting → Flow
 begun s = record {
-    source = s.source;
-    target = s.target;
-    protocol = s.protocol;
-    first = s.time;
-    last = s.time;
-    orig_packets = 1;
-    orig_bytes = s.original;
-    resp_packets = 0;
-    resp_bytes = 0
-  }
+  source = s.source;
+  target = s.target;
+  protocol = s.protocol;
+  first = s.time;
+  last = s.time;
+  orig_packets = 1;
+  orig_bytes = s.original;
+  resp_packets = 0;
+  resp_bytes = 0;
+}
 
 -- the flow with one more packet
 abbrev pub joined : Sighting → Flow → Flow
@@ -40,14 +40,14 @@ is_over time f = nat_lt (f.last + pause) time
 -- the last of the flows that has the key
 unfoldable pub latest_flow : Key → List Flow → Option Flow
 latest_flow k [] = None
-latest_flow k (f ∷ fs) = option_or (latest_flow k fs) (if same_key k (flow_key f) then Some f else None)
+latest_flow k (f ∷ fs) = option_or (latest_flow k fs) (if same_key (flow_key f) k then Some f else None)
 
 -- the packet put to the last flow of its key
 unfoldable pub join_latest : Sighting → List Flow → List Flow
 join_latest s [] = []
 join_latest s (f ∷ fs) =
     if is_some (latest_flow (key_of s) fs) then f ∷ join_latest s fs
-    else (if same_key (key_of s) (flow_key f) then joined s f ∷ fs else f ∷ fs)
+    else (if same_key (flow_key f) (key_of s) then joined s f ∷ fs else f ∷ fs)
 
 -- a packet joins the latest flow of its key, unless there is none or that one is over: then it begins a flow
 abbrev pub with_sighting : List Flow → Sighting → List Flow

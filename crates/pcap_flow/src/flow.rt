@@ -1,5 +1,5 @@
 //! Flows.
-ghost use Rattle.std.specs.Prelude.{◌≡◌, ◌≤◌, ◌<◌, ◌^◌, ◌+◌, ◌*◌, IsTrue};
+ghost use Rattle.std.specs.Prelude.{◌≡◌, ◌≤◌, ◌<◌, ◌^◌, ◌+◌, ◌-◌, ◌*◌, ℕ, IsTrue};
 ghost use Rattle.pcap_flow.specs.Steps.{begun, joined, is_over, flow_key, is_bounded};
 
 use crate::key::{End, Key};
@@ -27,8 +27,12 @@ pub struct Flow {
 }
 
 impl Flow {
+    /// The flow of its first packet.
+    #[tactic(auto, using(crate::proofs::FlowLemmas::bounded_begun))]
     pub fn begun(sighting: Sighting) -> Self
-        ensures { result ≡ begun sighting }
+        requires { sighting.time < 2 ^ 63 }
+        ensures value { result ≡ begun sighting }
+        ensures more { (n : ℕ) → IsTrue (is_bounded (n + 1) result) }
     {
         Flow {
             source: sighting.source,
@@ -44,10 +48,13 @@ impl Flow {
     }
 
     /// The flow with one more packet.
-    pub fn joined(self, sighting: Sighting, added: u64) -> Self
-        requires bounded { IsTrue (is_bounded added self) }
-        requires few { added < 2 ^ 32 }
-        ensures { result ≡ joined sighting self }
+    #[tactic(auto, using(crate::proofs::FlowLemmas::bounded_joined, crate::proofs::FlowLemmas::key_joined))]
+    pub fn joined(self, sighting: Sighting) -> Self
+        requires bounded { IsTrue (is_bounded (2 ^ 32 - 1) self) }
+        requires time { sighting.time < 2 ^ 63 }
+        ensures value { result ≡ joined sighting self }
+        ensures same { flow_key result ≡ flow_key self }
+        ensures more { (n : ℕ) → IsTrue (is_bounded n self) → IsTrue (is_bounded (n + 1) result) }
     {
         let mut flow = self;
         flow.last = self.last.max(sighting.time);

@@ -5,10 +5,12 @@
 #![tactic(auto)]
 
 mod flow;
+mod flows;
 mod key;
 mod packet;
 mod sighting;
 
 pub use flow::Flow;
+pub use flows::Flows;
 pub use key::{End, Key};
 pub use packet::Packet;
