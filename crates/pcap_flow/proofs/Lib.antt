@@ -1,2 +1,4 @@
 mod FlowLemmas
 mod PlaceLemmas
+mod KeyLemmas
+mod GroupLemmas

@@ -3,3 +3,4 @@ pub mod Sightings
 pub mod Groups
 pub mod Steps
 pub mod Tracked
+pub mod Laws
