@@ -3,7 +3,7 @@ use Rattle.std.proofs.Common.{◌≡◌, ◌<◌, ◌≤◌, ◌+◌, ◌-◌, �
 use Rattle.std.proofs.lemmas.Bool.Decides.{nat_tests}
 use Rattle.std.specs.List.{list_all}
 use Rattle.pcap_flow.specs.Keys.{same_end, key_between}
-use Rattle.pcap_flow.specs.Steps.{flow_key, begun, joined, is_bounded}
+use Rattle.pcap_flow.specs.Steps.{flow_key, begun, joined, is_bounded, is_timed}
 use Rattle.pcap_flow.specs.declared.flow.Flow.{Flow}
 use Rattle.pcap_flow.specs.declared.sighting.Sighting.{Sighting}
 
@@ -63,3 +63,13 @@ all_bounded_set n (g ∷ fs) (suc i) f h one =
 pub on_ok : {T E : Type 0} (r : Result T E) {P : Type 0} → is_err r ≡ false → OnOk r P → P
 on_ok (Ok x) h p = p
 on_ok (Err e) h p = cc
+
+timed_if_bounded : (n : ℕ) (f : Flow) → is_bounded n f ≡ true → is_timed f ≡ true
+timed_if_bounded n f h = grind (arith, nat_tests)
+
+-- the times of flows
+pub all_timed : (n : ℕ) (fs : List Flow) → list_all (is_bounded n) fs ≡ true → list_all is_timed fs ≡ true
+all_timed n [] h = refl
+all_timed n (f ∷ fs) h =
+    let both = and_parts (is_bounded n f) (list_all (is_bounded n) fs) h in
+    and_both _ _ (timed_if_bounded n f both.0) (all_timed n fs both.1)

@@ -122,6 +122,7 @@ members_begun k q [] earlier h = by (has_key k q) refl
   where
     at_once : begins earlier q ≡ true
     at_once = subst (λ (xs : List Sighting). begins xs q ≡ true) (append-nil earlier) h
+
     by : (b : Bool) → has_key k q ≡ b → members earlier k (q ∷ []) ≡ []
     by true e = rw (e, at_once) refl
     by false e = rw e refl
@@ -216,6 +217,7 @@ flows_begun q (x ∷ rest) earlier h = by (flows_begun q rest (earlier ++ x ∷ 
   where
     later : begins ((earlier ++ x ∷ []) ++ rest) q ≡ true
     later = ap (λ (xs : List Sighting). begins xs q) (moved earlier x rest) ∙ h
+
     by : flows_after (earlier ++ x ∷ []) (rest ++ q ∷ []) ≡ flows_after (earlier ++ x ∷ []) rest ++ begun q ∷ []
         → (b : Bool) → begins earlier x ≡ b → flows_after earlier ((x ∷ rest) ++ q ∷ []) ≡ flows_after earlier (x ∷ rest) ++ begun q ∷ []
     by ih true e = rw (e, members_begun (key_of x) q rest (earlier ++ x ∷ []) later, ih) refl
@@ -231,13 +233,17 @@ flows_joined q (x ∷ rest) earlier h = by (flows_joined q rest (earlier ++ x �
   where
     later : begins ((earlier ++ x ∷ []) ++ rest) q ≡ false
     later = ap (λ (xs : List Sighting). begins xs q) (moved earlier x rest) ∙ h
+
     Joins : Type 0
     Joins = flows_after earlier ((x ∷ rest) ++ q ∷ []) ≡ join_latest q (flows_after earlier (x ∷ rest))
+
     -- a flow of another key
     other : (b : Bool) → same_key (key_of x) (key_of q) ≡ false → has_key (key_of x) q ≡ false
     other b e = same_key_comm (key_of q) (key_of x) ∙ e
+
     own : same_key (key_of x) (key_of q) ≡ true → has_key (key_of x) q ≡ true
     own e = same_key_comm (key_of q) (key_of x) ∙ e
+
     by : flows_after (earlier ++ x ∷ []) (rest ++ q ∷ []) ≡ join_latest q (flows_after (earlier ++ x ∷ []) rest)
         → (b : Bool) → begins earlier x ≡ b → flows_after earlier ((x ∷ rest) ++ q ∷ []) ≡ join_latest q (flows_after earlier (x ∷ rest))
     by ih false e = rw (e, ih) refl
@@ -294,6 +300,7 @@ begins_later (e ∷ xs) x q h same le = and_both _ _ (by (has_key (key_of q) e) 
   where
     both : ((not (has_key (key_of x) e) || nat_lt (e.time + pause) x.time) ≡ true) × (begins xs x ≡ true)
     both = and_parts (not (has_key (key_of x) e) || nat_lt (e.time + pause) x.time) (begins xs x) h
+
     by : (b : Bool) → has_key (key_of q) e ≡ b → (not (has_key (key_of q) e) || nat_lt (e.time + pause) q.time) ≡ true
     by false k = rw k refl
     by true k =
@@ -315,6 +322,7 @@ tells_push xs x tells q = by (begins xs x) refl (same_key (key_of x) (key_of q))
   where
     near : Bool
     near = nat_lt (x.time + pause) q.time
+
     by : (a : Bool) → begins xs x ≡ a → (b : Bool) → same_key (key_of x) (key_of q) ≡ b
         → begins (xs ++ x ∷ []) q ≡ option_map_or (is_over q.time) (latest_flow (key_of q) (flows_after [] (xs ++ x ∷ []))) true
     by true a false b =
@@ -365,6 +373,7 @@ step_is xs q = by (begins xs q) refl
   where
     tells : begins xs q ≡ option_map_or (is_over q.time) (latest_flow (key_of q) (flows_after [] xs)) true
     tells = tells_all xs [] tells_none q
+
     by : (b : Bool) → begins xs q ≡ b → with_sighting (flows_after [] xs) q ≡ flows_after [] (xs ++ q ∷ [])
     by true e = rw (sym tells ∙ e) (sym (flows_begun q xs [] e))
     by false e = rw (sym tells ∙ e) (sym (flows_joined q xs [] e))

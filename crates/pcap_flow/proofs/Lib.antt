@@ -2,3 +2,4 @@ mod FlowLemmas
 mod PlaceLemmas
 mod KeyLemmas
 mod GroupLemmas
+mod LayoutLemmas

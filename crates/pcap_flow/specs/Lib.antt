@@ -4,3 +4,4 @@ pub mod Groups
 pub mod Steps
 pub mod Tracked
 pub mod Laws
+pub mod Rows

@@ -58,9 +58,13 @@ with_sighting flows s =
 abbrev pub with_packet : List Flow → Packet → List Flow
 with_packet flows p = option_map_or (with_sighting flows) (sighting_of p) flows
 
+-- its first packet is none of the last, and its times are those of signed numbers
+abbrev pub is_timed : Flow → Bool
+is_timed f = nat_le f.first f.last && nat_lt f.last (2 ^ 63)
+
 -- what is true of each flow of so many packets: its counts and times are within the types' ranges
 abbrev pub is_bounded : ℕ → Flow → Bool
 is_bounded added f =
-    nat_le f.first f.last && nat_lt f.last (2 ^ 63)
+    is_timed f
     && nat_le f.orig_packets added && nat_le f.resp_packets added
     && nat_le f.orig_bytes (f.orig_packets * (2 ^ 32 - 1)) && nat_le f.resp_bytes (f.resp_packets * (2 ^ 32 - 1))

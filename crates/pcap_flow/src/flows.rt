@@ -1,11 +1,13 @@
 //! The flows of a list of packets, packet by packet.
-ghost use Rattle.std.specs.Prelude.{◌≡◌, ◌≤◌, ◌<◌, ◌^◌, ◌+◌, pos, ◌≤ℤ◌, [], ◌∷◌, ◌++◌, length, slice_get, slice_set, IsTrue, IsSomeAnd, OnOk, OnErr, IfOk};
+ghost use Rattle.std.specs.Prelude.{◌≡◌, ◌≤◌, ◌<◌, ◌^◌, ◌+◌, pos, ◌≤ℤ◌, [], ◌∷◌, ◌++◌, length, map, slice_get, slice_set, IsTrue, IsSomeAnd, OnOk, OnErr, IfOk};
 ghost use Rattle.pcap_flow.specs.Steps.{with_packet, with_sighting, begun, is_bounded, flow_key};
+ghost use Rattle.pcap_flow.specs.Rows.{flow_row};
 ghost use Rattle.pcap_flow.specs.Tracked.{latest_place};
 
 use crate::flow::Flow;
 use crate::key::Key;
 use crate::packet::Packet;
+use crate::rows::{Rows, flow_rows};
 use crate::sighting::Sighting;
 use indexmap::IndexMap;
 use std::alloc::{AllocError, Global};
@@ -65,6 +67,15 @@ impl Flows {
                 Ok(())
             }
         }
+    }
+
+    /// The rows of the flows, in the order of their first packets, in the columns of
+    /// [`crate::flow_layout`].
+    #[tactic(auto, using(crate::proofs::FlowLemmas::all_timed))]
+    pub fn finish(self, alloc: Global) -> Result<Rows, AllocError>
+        ensures { IfOk result (λ rows. rows ≡ map flow_row self.flows) }
+    {
+        flow_rows(alloc, self.flows.as_slice())
     }
 
     fn add_sighting(&mut self, sighting: Sighting) -> Result<(), AllocError>

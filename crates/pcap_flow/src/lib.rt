@@ -7,10 +7,17 @@
 mod flow;
 mod flows;
 mod key;
+mod law;
+mod layout;
 mod packet;
+mod rows;
 mod sighting;
 
-pub use flow::Flow;
 pub use flows::Flows;
-pub use key::{End, Key};
+pub use law::flows_of_packets;
+pub use layout::{flow_layout, packet_layout};
 pub use packet::Packet;
+pub use rows::{Rows, packet_row};
+
+#[cfg(test)]
+mod tests;

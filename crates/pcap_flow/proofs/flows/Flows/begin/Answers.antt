@@ -18,10 +18,11 @@ invariant_of-self-2 c =
     let items = c.in_ok-push.ensures.items ∙ ap (λ (f : Flow). fs ++ f ∷ []) c.begun.ensures.value in
     let updates = on_ok c.insert.result (sym c.if-is_err.ensures.value) c.insert.ensures.updates in
     let count : length c.as_slice-place.result.now ≡ length fs = ap length c.as_slice-place.ensures.value in
-    let bounded = all_bounded_push (c.self.inside.added + 1) fs c.begun.result (all_bounded c.self.inside.added fs c.self.invariant.1) (c.begun.ensures.more c.self.inside.added) in
-    (λ k. updates.0 k
-    ∙ ap (λ (q : Key). cond (same_key q k) (Some (length c.as_slice-place.result.now)) (get same_key c.self.inside.latest k)) c.key.ensures
-    ∙ ap (λ (n : ℕ). cond (same_key (key_of s) k) (Some n) (get same_key c.self.inside.latest k)) count
-    ∙ ap (λ (o : Option ℕ). cond (same_key (key_of s) k) (Some (length fs)) o) (c.self.invariant.0 k)
-    ∙ sym (place_push k fs (begun s)) ∙ ap (latest_place k) (sym items),
-    rw c.in_ok-push.ensures.items bounded)
+    let bounded = all_bounded_push (c.self.inside.added + 1) fs c.begun.result (all_bounded c.self.inside.added fs c.self.invariant.1) (c.begun.ensures.more c.self.inside.added) in (
+      λ k. updates.0 k
+          ∙ ap (λ (q : Key). cond (same_key q k) (Some (length c.as_slice-place.result.now)) (get same_key c.self.inside.latest k)) c.key.ensures
+          ∙ ap (λ (n : ℕ). cond (same_key (key_of s) k) (Some n) (get same_key c.self.inside.latest k)) count
+          ∙ ap (λ (o : Option ℕ). cond (same_key (key_of s) k) (Some (length fs)) o) (c.self.invariant.0 k)
+          ∙ sym (place_push k fs (begun s)) ∙ ap (latest_place k) (sym items),
+      rw c.in_ok-push.ensures.items bounded,
+    )
