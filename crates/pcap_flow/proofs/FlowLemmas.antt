@@ -1,8 +1,8 @@
 -- One flow.
-use Rattle.std.proofs.Common.{◌≡◌, ◌<◌, ◌≤◌, ◌+◌, ◌-◌, ◌*◌, ◌^◌, ℕ, zero, suc, List, [], ◌∷◌, ◌++◌, set, Result, Ok, Err, is_err, OnOk, Bool, true, false, max, arith, refl, sym, ap, ◌∙◌, ◌&&◌, nat_lt, nat_le, if◌then◌else◌}
+use Rattle.std.proofs.Common.{◌≡◌, ◌<◌, ◌≤◌, ◌+◌, ◌^◌, ℕ, zero, suc, List, [], ◌∷◌, ◌++◌, set, Result, Ok, Err, is_err, OnOk, Bool, true, false, arith, refl, ◌&&◌}
 use Rattle.std.proofs.lemmas.Bool.Decides.{nat_tests}
 use Rattle.std.specs.List.{list_all}
-use Rattle.pcap_flow.specs.Keys.{same_end, key_between}
+use Rattle.pcap_flow.specs.Keys.{same_end}
 use Rattle.pcap_flow.specs.Steps.{flow_key, begun, joined, is_bounded, is_timed}
 use Rattle.pcap_flow.specs.declared.flow.Flow.{Flow}
 use Rattle.pcap_flow.specs.declared.sighting.Sighting.{Sighting}

@@ -1,6 +1,6 @@
 -- The flows of a list of packets with one packet more.
-use Rattle.std.proofs.Common.{◌≡◌, ◌<◌, ◌≤◌, ◌+◌, ℕ, zero, suc, Bool, true, false, not, ◌&&◌, ◌||◌, max, nat_lt, List, [], ◌∷◌, ◌++◌, map, Option, Some, None, is_some, arith, refl, sym, ap, subst, ◌∙◌, if◌then◌else◌, append_assoc, append-nil, add-zero, zero-add}
-use Rattle.std.specs.Prelude.{fold, filter_map, sum_by, count_by}
+use Rattle.std.proofs.Common.{◌≡◌, ◌≤◌, ◌+◌, ℕ, Bool, true, false, not, ◌&&◌, ◌||◌, max, nat_lt, List, [], ◌∷◌, ◌++◌, map, Option, Some, None, is_some, arith, refl, sym, ap, subst, ◌∙◌, if◌then◌else◌, append_assoc, append-nil, add-zero, zero-add}
+use Rattle.std.specs.Prelude.{fold, filter_map, sum_by}
 use Rattle.std.specs.List.{list_all}
 use Rattle.std.specs.Option.{option_map, option_map_or, option_or}
 use Rattle.std.proofs.lemmas.Bool.{ltb-true}
@@ -9,7 +9,7 @@ use Rattle.std.proofs.lemmas.List.Sums.{sum_by-append, fold-append}
 use Rattle.std.proofs.lemmas.List.Folds.{list_all-append}
 use Rattle.pcap_flow.specs.Keys.{same_end, same_key}
 use Rattle.pcap_flow.specs.Sightings.{sighting_of, key_of, has_key}
-use Rattle.pcap_flow.specs.Groups.{Group, begins, members, groups_after, flow_of, bytes_if, pause}
+use Rattle.pcap_flow.specs.Groups.{begins, members, groups_after, flow_of, bytes_if, pause}
 use Rattle.pcap_flow.specs.Steps.{flow_key, begun, joined, is_over, latest_flow, join_latest, with_sighting, with_packet}
 use Rattle.pcap_flow.specs.Laws.{StepsGiveFlows}
 use Rattle.pcap_flow.specs.declared.packet.Packet.{Packet}
@@ -17,7 +17,7 @@ use Rattle.pcap_flow.specs.declared.key.Key.{Key}
 use Rattle.pcap_flow.specs.declared.flow.Flow.{Flow}
 use Rattle.pcap_flow.specs.declared.sighting.Sighting.{Sighting}
 use Rattle.pcap_flow.proofs.FlowLemmas.{key_joined, and_parts, and_both}
-use Rattle.pcap_flow.proofs.KeyLemmas.{same_end_refl, same_key_eq, same_key_refl, same_key_comm}
+use Rattle.pcap_flow.proofs.KeyLemmas.{same_end_refl, same_key_eq, same_key_comm}
 
 -- the flows that begin in what follows `earlier`
 abbrev pub flows_after : List Sighting → List Sighting → List Flow

@@ -1,13 +1,13 @@
 -- Columns by their names.
-use Rattle.std.proofs.Common.{◌≡◌, ◌+◌, ℕ, List, [], ◌∷◌, ◌++◌, Option, None, Bool, true, false, refl, sym, ap, ◌∙◌, nat_lt, if◌then◌else◌, Some, ◌||◌, map}
+use Rattle.std.proofs.Common.{◌≡◌, ◌+◌, ℕ, List, [], ◌∷◌, ◌++◌, Option, None, Bool, false, refl, sym, ap, ◌∙◌, nat_lt, if◌then◌else◌, Some, ◌||◌}
 use Rattle.std.specs.List.{list_any}
 use Rattle.std.specs.Option.{option_or}
 use Rattle.std.specs.Str.{bytes_eq}
-use Rattle.vast_value.specs.Layouts.{layout_fault, columns_fault, column_fault, is_empty, is_named}
+use Rattle.vast_value.specs.Layouts.{layout_fault, columns_fault, is_empty, is_named}
 use Rattle.vast_value.specs.declared.kind.Kind.{Kind}
 use Rattle.vast_value.specs.declared.column.Column.{Column}
 use Rattle.vast_value.specs.declared.layout.BadLayout.{BadLayout}
-use Rattle.vast_value.specs.declared.layout.BadLayout.TheVariants.{EmptyPath, NoColumns, TooManyColumns, EmptyName, SameName}
+use Rattle.vast_value.specs.declared.layout.BadLayout.TheVariants.{TooManyColumns, EmptyName, SameName}
 use Rattle.pcap_flow.specs.Rows.{named}
 
 pub named_push : (cs : List Column) (c : Column) → named (cs ++ c ∷ []) ≡ named cs ++ (c.name, c.kind) ∷ []

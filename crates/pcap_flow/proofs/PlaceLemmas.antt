@@ -1,6 +1,5 @@
 -- Where the latest flow of a key stands.
-use Rattle.std.proofs.Common.{◌≡◌, ◌<◌, ◌+◌, ℕ, zero, suc, Bool, true, false, List, [], ◌∷◌, ◌++◌, length, Option, Some, None, is_some, IsSomeAnd, slice_get, set, arith, refl, sym, ap, ◌∙◌, if◌then◌else◌}
-use Rattle.std.proofs.lemmas.Option.{slice_get_within}
+use Rattle.std.proofs.Common.{◌≡◌, ◌<◌, ◌+◌, ℕ, zero, suc, Bool, true, false, List, [], ◌∷◌, ◌++◌, length, Option, Some, None, IsSomeAnd, slice_get, set, arith, refl, sym, ap, ◌∙◌, if◌then◌else◌}
 use Rattle.pcap_flow.specs.Keys.{same_key}
 use Rattle.pcap_flow.specs.Sightings.{key_of}
 use Rattle.pcap_flow.specs.Steps.{flow_key, begun, joined, is_over, latest_flow, join_latest, with_sighting}

@@ -1,6 +1,5 @@
 -- Packets that belong to a flow.
 use Rattle.std.specs.Prelude.{ℕ, ℤ, pos, negsuc, Bool, Option, Some, None}
-use Rattle.pcap_packet.specs.declared.parts.Parts.{Parts}
 use Rattle.pcap_flow.specs.declared.key.Key.{Key}
 use Rattle.pcap_flow.specs.declared.packet.Packet.{Packet}
 use Rattle.pcap_flow.specs.declared.sighting.Sighting.{Sighting}

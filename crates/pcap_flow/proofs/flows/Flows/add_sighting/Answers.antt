@@ -1,6 +1,4 @@
-use Rattle.std.proofs.Common.{◌≡◌, ◌<◌, ◌∙◌, sym, ap, Some, None}
-use Rattle.pcap_flow.specs.Keys.{same_key}
-use Rattle.pcap_flow.specs.Sightings.{key_of}
+use Rattle.std.proofs.Common.{◌∙◌, sym, ap}
 use Rattle.pcap_flow.specs.Tracked.{latest_place}
 use Rattle.pcap_flow.specs.declared.key.Key.{Key}
 use Rattle.pcap_flow.proofs.PlaceLemmas.{latest_within, step_none, step_over, step_joined}

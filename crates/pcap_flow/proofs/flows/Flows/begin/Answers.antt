@@ -1,13 +1,12 @@
-use Rattle.std.proofs.Common.{◌≡◌, ◌+◌, ◌∙◌, ◌∷◌, ◌++◌, [], ℕ, Option, Some, sym, ap, subst, true, refl, arith, cond, length}
-use Rattle.std.specs.List.{list_all}
+use Rattle.std.proofs.Common.{◌≡◌, ◌+◌, ◌∙◌, ◌∷◌, ◌++◌, [], ℕ, Option, Some, sym, ap, cond, length}
 use Rattle.indexmap.specs.IndexMap.{get}
 use Rattle.pcap_flow.specs.Keys.{same_key}
 use Rattle.pcap_flow.specs.Sightings.{key_of}
-use Rattle.pcap_flow.specs.Steps.{begun, is_bounded}
+use Rattle.pcap_flow.specs.Steps.{begun}
 use Rattle.pcap_flow.specs.Tracked.{latest_place}
 use Rattle.pcap_flow.specs.declared.key.Key.{Key}
 use Rattle.pcap_flow.specs.declared.flow.Flow.{Flow}
-use Rattle.pcap_flow.proofs.FlowLemmas.{all_bounded, all_bounded_push, bounded_begun, on_ok}
+use Rattle.pcap_flow.proofs.FlowLemmas.{all_bounded, all_bounded_push, on_ok}
 use Rattle.pcap_flow.proofs.PlaceLemmas.{place_push}
 use Rattle.pcap_flow.proofs.flows.Flows.begin.Goals as goal
 

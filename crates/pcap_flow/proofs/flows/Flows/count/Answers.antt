@@ -1,4 +1,3 @@
-use Rattle.std.proofs.Common.{◌≤◌, ◌+◌, arith}
 use Rattle.pcap_flow.proofs.FlowLemmas.{all_bounded}
 use Rattle.pcap_flow.proofs.flows.Flows.count.Goals as goal
 

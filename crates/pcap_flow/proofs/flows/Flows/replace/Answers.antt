@@ -1,4 +1,4 @@
-use Rattle.std.proofs.Common.{◌≡◌, ◌+◌, ◌∙◌, sym, subst, true, slice_get, IsSomeAnd, IsTrue}
+use Rattle.std.proofs.Common.{◌≡◌, ◌+◌, ◌∙◌, sym, subst, slice_get, IsSomeAnd, IsTrue}
 use Rattle.pcap_flow.specs.Steps.{flow_key, is_bounded}
 use Rattle.pcap_flow.specs.Tracked.{Tracked}
 use Rattle.pcap_flow.specs.declared.flow.Flow.{Flow}
