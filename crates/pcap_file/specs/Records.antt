@@ -1,12 +1,17 @@
 -- The records of a capture file, said of the whole list of its bytes.
-use Rattle.std.specs.Prelude.{◌≡◌, ℕ, zero, suc, ℤ, pos, ◌+◌, ◌*◌, ◌^◌, ◌<◌, nat_lt, if◌then◌else◌, List, [], ◌∷◌, length, take, drop, Result, Ok, Err}
+use Rattle.std.specs.Prelude.{◌≡◌, ◌≤◌, ◌++◌, Bool, true, false, Option, ℕ, zero, suc, ℤ, pos, ◌+◌, ◌*◌, ◌^◌, ◌<◌, nat_lt, if◌then◌else◌, List, [], ◌∷◌, length, take, drop, Result, Ok, Err}
+use Rattle.vast_io.specs.Causes.{Rose}
+use Rattle.vast_io.specs.Told.{IsAtEnd}
+use Rattle.pcap_file.specs.Taking.{most_bytes}
+use Rattle.pcap_file.specs.declared.fill.Filled.{Filled}
+use Rattle.pcap_file.specs.declared.fill.Filled.TheVariants as filled
 use Rattle.pcap_file.specs.Heads.{number_at, head_of}
 use Rattle.pcap_file.specs.declared.head.Fraction.{Fraction}
 use Rattle.pcap_file.specs.declared.head.Fraction.TheVariants.{Micro, Nano}
 use Rattle.pcap_file.specs.declared.head.FileHead.{FileHead}
 use Rattle.pcap_file.specs.declared.record.Captured.{Captured}
 use Rattle.pcap_file.specs.declared.end.PcapEnd.{PcapEnd}
-use Rattle.pcap_file.specs.declared.end.PcapEnd.TheVariants.{Done, Fault, ReadFault, TooLong}
+use Rattle.pcap_file.specs.declared.end.PcapEnd.TheVariants.{Done, Fault, ReadFault, TooLong, Memory}
 use Rattle.pcap_file.specs.declared.end.CaptureFault.{CaptureFault}
 use Rattle.pcap_file.specs.declared.end.CaptureFault.TheVariants.{RecordTooLong, ShortHead, ShortRecord}
 
@@ -85,3 +90,39 @@ unfoldable pub records : List ℕ → Stop → Answers
 records bytes stop =
     if nat_lt (length bytes) 24 then ended (cut_off stop (length bytes) ShortHead)
     else records_behind (head_of bytes) bytes stop
+
+-- what is still to come of a capture, by all bytes from here on, ends here: `new` are those that were taken, the first
+-- of which is at this offset, and `now` those that the source has left
+abbrev pub Ends : (List ℕ → Stop → Answers) → ℕ → List ℕ → Option (List ℕ) → PcapEnd → Type 0
+Ends come offset new now Done = (come new AtEnd ≡ ended Done) × (offset + length new < most_bytes) × IsAtEnd now
+Ends come offset new now (Fault at ShortHead) = (come new AtEnd ≡ ended (Fault at ShortHead)) × (offset + length new < most_bytes) × IsAtEnd now
+Ends come offset new now (Fault at ShortRecord) = (come new AtEnd ≡ ended (Fault at ShortRecord)) × (offset + length new < most_bytes) × IsAtEnd now
+Ends come offset new now (Fault at what) = (more : List ℕ) (stop : Stop) → come (new ++ more) stop ≡ ended (Fault at what)
+Ends come offset new now ReadFault = come new Failed ≡ ended ReadFault
+Ends come offset new now TooLong = (come new AtBound ≡ ended TooLong) × (offset + length new ≡ most_bytes)
+Ends come offset new now Memory = Unit {0}
+
+-- where memory was found, all that was taken is held
+abbrev pub held_by : {X : Type 0} → Result X PcapEnd → Filled
+held_by (Err Memory) = filled.Memory
+held_by _ = filled.Enough
+
+-- the source's count of faults rose exactly where a read failed
+abbrev pub CountsBy : {X : Type 0} → Result X PcapEnd → ℕ → ℕ → Type 0
+CountsBy (Err ReadFault) before now = Rose before now
+CountsBy _ before now = now ≡ before
+
+-- the bytes held begin with a whole record of this size
+pub record IsWhole (head : FileHead) (offset size : ℕ) (new : List ℕ) : Type 0 where
+  pub size_is : size ≡ size_of_record head new
+  pub within : size ≤ length new
+  pub short : captured_of head new ≤ 262144
+
+-- why the bytes of a record didn't all come
+abbrev pub end_after : Filled → Bool → ℕ → PcapEnd
+end_after filled.AtEnd true offset = Done
+end_after filled.AtEnd false offset = Fault offset ShortRecord
+end_after filled.Failed nothing offset = ReadFault
+end_after filled.AtBound nothing offset = TooLong
+end_after filled.Memory nothing offset = Memory
+end_after filled.Enough nothing offset = Memory

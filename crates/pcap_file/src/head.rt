@@ -98,6 +98,7 @@ fn is_link(link: u16) -> bool
 }
 
 /// The file head in the first 24 bytes, or the first of its faults.
+#[tactic(auto, unfolding(crate::specs::Heads::head_of))]
 pub fn head_of(bytes: &[u8]) -> Result<FileHead, PcapEnd>
     requires { 24 ≤ length bytes.now }
     ensures { result ≡ head_of bytes.now }

@@ -1,10 +1,18 @@
 //! The records of a capture.
-ghost use Rattle.std.specs.Prelude.{◌≡◌, ◌≤◌, ◌<◌, ◌+◌, ◌^◌, length, IfOk};
-ghost use Rattle.pcap_file.specs.Records.{record_of, size_of_record, captured_of, nanoseconds};
+ghost use Rattle.std.specs.Prelude.{◌≡◌, ◌≤◌, ◌<◌, ◌+◌, ◌^◌, ◌==◌, length, IfOk, IfErr};
+ghost use Rattle.pcap_file.specs.Records.{record_of, size_of_record, captured_of, nanoseconds, records_from, end_after, Ends, IsWhole, CountsBy, held_by};
+ghost use Rattle.pcap_file.specs.Taking.{most_bytes, Takes};
 
+use crate::end::{CaptureFault, PcapEnd};
+use crate::fill::{Filled, fill};
 use crate::head::{FileHead, Fraction, u32_at};
+use crate::held::Held;
 use std::alloc::{AllocError, Global};
+use vast_io::Source;
 use vast_value::Bytes;
+
+/// No record has more captured bytes.
+const MOST_CAPTURED: u32 = 262_144;
 
 /// A captured packet.
 #[derive(Debug, Drop)]
@@ -58,4 +66,52 @@ fn time_of(fraction: Fraction, seconds: u32, part: u32) -> i64
         Fraction::Nano => 1,
     };
     (u64::from(seconds) * 1_000_000_000 + u64::from(part) * unit) as i64
+}
+
+/// Takes bytes until a whole record is held, and answers its size.
+pub fn whole_record<S: Source>(source: &mut S, block: &mut [u8], held: &mut Held, head: FileHead, offset: u64) -> Result<usize, PcapEnd>
+    requires room { offset + length held.old ≤ most_bytes }
+    requires block { 0 < length block.old }
+    ensures takes { Takes (held_by result) held.old held.new (S.left source.old) (S.left source.new) }
+    ensures whole { IfOk result (λ size. IsWhole head offset size held.new) }
+    ensures ends { IfErr result (λ e. Ends (records_from head offset) offset held.new (S.left source.new) e) }
+    ensures room { offset + length held.new ≤ most_bytes }
+    ensures counts { CountsBy result (S.faults source.old) (S.faults source.new) }
+{
+    match fill(source, block, held, offset, 16) {
+        Filled::Enough => {}
+        other => return Err(end_after(other, held.as_slice().is_empty(), offset)),
+    }
+    let captured = captured_of(head, held.as_slice());
+    if captured > MOST_CAPTURED {
+        return Err(PcapEnd::Fault {
+            offset,
+            what: CaptureFault::RecordTooLong,
+        });
+    }
+    let size = 16 + captured as usize;
+    match fill(source, block, held, offset, size) {
+        Filled::Enough => Ok(size),
+        other => Err(end_after(other, false, offset)),
+    }
+}
+
+fn end_after(filled: Filled, nothing: bool, offset: u64) -> PcapEnd
+    ensures { result ≡ end_after filled nothing offset }
+{
+    match filled {
+        Filled::AtEnd => {
+            if nothing {
+                return PcapEnd::Done;
+            }
+            PcapEnd::Fault {
+                offset,
+                what: CaptureFault::ShortRecord,
+            }
+        }
+        Filled::Failed => PcapEnd::ReadFault,
+        Filled::AtBound => PcapEnd::TooLong,
+        Filled::Memory => PcapEnd::Memory,
+        Filled::Enough => PcapEnd::Memory,
+    }
 }
