@@ -17,7 +17,7 @@ prepend_nothing : (known : Option (List ℕ)) → prepend_known [] known ≡ kno
 prepend_nothing None = refl
 prepend_nothing (Some xs) = refl
 
-prepend_twice : (a b : List ℕ) (known : Option (List ℕ)) → prepend_known a (prepend_known b known) ≡ prepend_known (a ++ b) known
+pub prepend_twice : (a b : List ℕ) (known : Option (List ℕ)) → prepend_known a (prepend_known b known) ≡ prepend_known (a ++ b) known
 prepend_twice a b None = refl
 prepend_twice a b (Some xs) = ap Some (sym (append_assoc a b xs))
 

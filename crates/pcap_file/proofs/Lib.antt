@@ -1,2 +1,3 @@
 mod ByteLemmas
 mod RecordLemmas
+mod HeadLemmas

@@ -19,7 +19,7 @@ use Rattle.pcap_file.specs.declared.fill.Filled.{Filled}
 use Rattle.pcap_file.specs.declared.fill.Filled.TheVariants as filled
 
 -- a number isn't changed by bytes behind
-number_append : (order : Order) (n place : ℕ) (new more : List ℕ) → place + n ≤ length new → number_at order n place (new ++ more) ≡ number_at order n place new
+pub number_append : (order : Order) (n place : ℕ) (new more : List ℕ) → place + n ≤ length new → number_at order n place (new ++ more) ≡ number_at order n place new
 number_append Big n place new more le =
     let at : place ≤ length new = omega arith in
     let within : n ≤ length (drop place new) = omega (arith, length-drop place new) in
@@ -53,7 +53,7 @@ record_append head new more le =
       captured = captured i;
       original = original i;
       link = head.link;
-      bytes = bytes i
+      bytes = bytes i;
     })
 
 -- more room for records gives no more

@@ -1,5 +1,6 @@
 -- The records of a capture file, said of the whole list of its bytes.
 use Rattle.std.specs.Prelude.{◌≡◌, ◌≤◌, ◌++◌, Bool, true, false, Option, ℕ, zero, suc, ℤ, pos, ◌+◌, ◌*◌, ◌^◌, ◌<◌, nat_lt, if◌then◌else◌, List, [], ◌∷◌, length, take, drop, Result, Ok, Err}
+use Rattle.std.specs.Io.KnownBytes.{prepend_known}
 use Rattle.vast_io.specs.Causes.{Rose}
 use Rattle.vast_io.specs.Told.{IsAtEnd}
 use Rattle.pcap_file.specs.Taking.{most_bytes}
@@ -47,12 +48,12 @@ size_of_record head bytes = 16 + captured_of head bytes
 -- the record that the bytes begin with
 abbrev pub record_of : FileHead → List ℕ → Captured
 record_of head bytes = record {
-    time = nanoseconds head.magic.fraction (number_at head.magic.order 4 0 bytes) (number_at head.magic.order 4 4 bytes);
-    captured = captured_of head bytes;
-    original = number_at head.magic.order 4 12 bytes;
-    link = head.link;
-    bytes = take (captured_of head bytes) (drop 16 bytes)
-  }
+  time = nanoseconds head.magic.fraction (number_at head.magic.order 4 0 bytes) (number_at head.magic.order 4 4 bytes);
+  captured = captured_of head bytes;
+  original = number_at head.magic.order 4 12 bytes;
+  link = head.link;
+  bytes = take (captured_of head bytes) (drop 16 bytes);
+}
 
 -- the records of a capture, in order, and its end
 pub record Answers : Type 0 where
@@ -126,3 +127,23 @@ end_after filled.Failed nothing offset = ReadFault
 end_after filled.AtBound nothing offset = TooLong
 end_after filled.Memory nothing offset = Memory
 end_after filled.Enough nothing offset = Memory
+
+-- why the bytes of a file head didn't all come; so many did
+abbrev pub end_of_head : Filled → ℕ → PcapEnd
+end_of_head filled.AtEnd count = Fault count ShortHead
+end_of_head filled.Failed count = ReadFault
+end_of_head filled.AtBound count = TooLong
+end_of_head filled.Memory count = Memory
+end_of_head filled.Enough count = Memory
+
+-- by the bytes held and those to come, a record is the first of what is still to come, and leaves the rest
+pub record StepsTo (come rest : List ℕ → Stop → Answers) (old new : List ℕ) (before now : Option (List ℕ)) (r : Captured) : Type 0 where
+  pub took : List ℕ
+  pub left : before ≡ prepend_known took now
+  pub is : (more : List ℕ) (stop : Stop) → come (old ++ (took ++ more)) stop ≡ first r (rest (new ++ more) stop)
+
+-- and so is an end
+pub record ClosesAs (come : List ℕ → Stop → Answers) (offset : ℕ) (old : List ℕ) (before now : Option (List ℕ)) (e : PcapEnd) : Type 0 where
+  pub took : List ℕ
+  pub left : before ≡ prepend_known took now
+  pub is : Ends come offset (old ++ took) now e

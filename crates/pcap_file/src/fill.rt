@@ -24,7 +24,13 @@ pub enum Filled {
 }
 
 /// Takes bytes until `need` are held. Those held begin at `offset` of all bytes.
-pub fn fill<S: Source>(source: &mut S, block: &mut [u8], held: &mut Held, offset: u64, need: usize) -> Filled
+pub fn fill<S: Source>(
+    source: &mut S,
+    block: &mut [u8],
+    held: &mut Held,
+    offset: u64,
+    need: usize,
+) -> Filled
     requires room { offset + length held.old ≤ most_bytes }
     requires block { 0 < length block.old }
     ensures takes { Takes result held.old held.new (S.left source.old) (S.left source.new) }

@@ -6,6 +6,7 @@ use crate::end::{CaptureFault, PcapEnd};
 use byteorder::{BigEndian, ByteOrder, LittleEndian};
 
 const MICROSECONDS: u32 = 0xa1b2_c3d4;
+
 const NANOSECONDS: u32 = 0xa1b2_3c4d;
 
 /// In which order the bytes of a number stand.

@@ -6,9 +6,10 @@ mod end;
 mod fill;
 mod head;
 mod held;
-//mod reader;
+mod opening;
+mod reader;
 mod record;
 
 pub use end::{CaptureFault, PcapEnd};
-//pub use reader::PcapReader;
+pub use reader::PcapReader;
 pub use record::Captured;

@@ -1,6 +1,6 @@
 //! The records of a capture.
-ghost use Rattle.std.specs.Prelude.{◌≡◌, ◌≤◌, ◌<◌, ◌+◌, ◌^◌, ◌==◌, length, IfOk, IfErr};
-ghost use Rattle.pcap_file.specs.Records.{record_of, size_of_record, captured_of, nanoseconds, records_from, end_after, Ends, IsWhole, CountsBy, held_by};
+ghost use Rattle.std.specs.Prelude.{◌≡◌, ◌≤◌, ◌<◌, ◌+◌, ◌^◌, ◌==◌, pos, ◌≤ℤ◌, length, IfOk, IfErr};
+ghost use Rattle.pcap_file.specs.Records.{record_of, size_of_record, captured_of, nanoseconds, records_from, end_after, Ends, IsWhole, CountsBy, held_by, StepsTo, ClosesAs};
 ghost use Rattle.pcap_file.specs.Taking.{most_bytes, Takes};
 
 use crate::end::{CaptureFault, PcapEnd};
@@ -69,7 +69,13 @@ fn time_of(fraction: Fraction, seconds: u32, part: u32) -> i64
 }
 
 /// Takes bytes until a whole record is held, and answers its size.
-pub fn whole_record<S: Source>(source: &mut S, block: &mut [u8], held: &mut Held, head: FileHead, offset: u64) -> Result<usize, PcapEnd>
+pub fn whole_record<S: Source>(
+    source: &mut S,
+    block: &mut [u8],
+    held: &mut Held,
+    head: FileHead,
+    offset: u64,
+) -> Result<usize, PcapEnd>
     requires room { offset + length held.old ≤ most_bytes }
     requires block { 0 < length block.old }
     ensures takes { Takes (held_by result) held.old held.new (S.left source.old) (S.left source.new) }
@@ -113,5 +119,35 @@ fn end_after(filled: Filled, nothing: bool, offset: u64) -> PcapEnd
         Filled::AtBound => PcapEnd::TooLong,
         Filled::Memory => PcapEnd::Memory,
         Filled::Enough => PcapEnd::Memory,
+    }
+}
+
+/// Takes the next record.
+pub fn next_record<S: Source>(
+    alloc: Global,
+    source: &mut S,
+    block: &mut [u8],
+    held: &mut Held,
+    head: FileHead,
+    offset: u64,
+) -> Result<Captured, PcapEnd>
+    requires room { offset + length held.old ≤ most_bytes }
+    requires block { 0 < length block.old }
+    ensures next { IfOk result (λ captured. StepsTo (records_from head offset) (records_from head (offset + (16 + captured.captured))) held.old held.new (S.left source.old) (S.left source.new) captured) }
+    ensures room { IfOk result (λ captured. offset + (16 + captured.captured) + length held.new ≤ most_bytes) }
+    ensures time { IfOk result (λ captured. pos 0 ≤ℤ captured.time) }
+    ensures ends { IfErr result (λ e. ClosesAs (records_from head offset) offset held.old (S.left source.old) (S.left source.new) e) }
+    ensures counts { CountsBy result (S.faults source.old) (S.faults source.new) }
+{
+    let size = match whole_record(source, block, held, head, offset) {
+        Ok(size) => size,
+        Err(end) => return Err(end),
+    };
+    match record_of(alloc, head, held.as_slice()) {
+        Ok(captured) => {
+            held.skip(size);
+            Ok(captured)
+        }
+        Err(_) => Err(PcapEnd::Memory),
     }
 }

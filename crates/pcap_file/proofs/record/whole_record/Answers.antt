@@ -13,7 +13,7 @@ returns-in_default g c =
       whole = tt;
       ends = few_ends c.fill.result c.args.head c.args.offset c.fill.new.held _ c.is_empty.result c.in_default.not-Enough nothing c.fill.ensures.tells;
       room = room_end c.fill.result 16 c.args.offset c.fill.new.held _ c.fill.ensures.tells;
-      counts = counts_end ℕ c.fill.result c.is_empty.result c.args.offset _ _ c.fill.ensures.counts
+      counts = counts_end ℕ c.fill.result c.is_empty.result c.args.offset _ _ c.fill.ensures.counts;
     })
 
 pub returns-then-captured-gt-MOST_CAPTURED-clause-ends : goal.returns-then-captured-gt-MOST_CAPTURED-clause-ends
@@ -30,7 +30,7 @@ returns-in-Enough-fill-clause-whole g c =
     record {
       size_is = omega arith;
       within = within;
-      short = omega arith
+      short = omega arith;
     }
 
 pub returns-in_default-fill : goal.returns-in_default-fill
@@ -43,5 +43,5 @@ returns-in_default-fill g c =
       whole = tt;
       ends = cut_ends c.fill-2.result c.args.head c.args.offset (16 + c.captured_of-captured.result) c.fill.new.held c.fill-2.new.held _ _ c.in_default-fill.not-Enough c.in-Enough.ensures.tells.0 short size c.fill-2.ensures.takes c.fill-2.ensures.tells;
       room = room_end c.fill-2.result (16 + c.captured_of-captured.result) c.args.offset c.fill-2.new.held _ c.fill-2.ensures.tells;
-      counts = counts_end ℕ c.fill-2.result false c.args.offset _ _ (subst (λ (n : ℕ). Counts c.fill-2.result n (g.S.Source.faults c.fill-2.new.source)) c.in-Enough.ensures.counts c.fill-2.ensures.counts)
+      counts = counts_end ℕ c.fill-2.result false c.args.offset _ _ (subst (λ (n : ℕ). Counts c.fill-2.result n (g.S.Source.faults c.fill-2.new.source)) c.in-Enough.ensures.counts c.fill-2.ensures.counts);
     })
