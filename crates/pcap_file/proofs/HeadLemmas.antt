@@ -1,9 +1,8 @@
 -- The file head, and what stands behind it.
-use Rattle.std.proofs.Common.{◌≡◌, ℕ, zero, suc, ◌+◌, ◌-◌, ◌<◌, ◌≤◌, ◌==◌, ◌%◌, Bool, true, false, not, nat_lt, if◌then◌else◌, List, [], ◌∷◌, ◌++◌, length, take, drop, Option, Some, None, Result, Ok, Err, refl, sym, ap, subst, ◌∙◌, arith, eqb, length-append, append_assoc}
+use Rattle.std.proofs.Common.{◌≡◌, ℕ, ◌+◌, ◌<◌, ◌≤◌, ◌==◌, Bool, true, false, List, ◌++◌, length, drop, Option, Some, None, Result, Ok, Err, refl, sym, ap, subst, ◌∙◌, arith, length-append, append_assoc}
 use Rattle.std.proofs.lemmas.Bool.{lt-ltb, le-ltb}
 use Rattle.std.proofs.lemmas.List.{drop-append-le, length-drop}
 use Rattle.std.specs.Io.KnownBytes.{prepend_known}
-use Rattle.vast_io.specs.Told.{IsAtEnd}
 use Rattle.pcap_file.specs.Heads.{number_at, magic_of, magic_end, version_end, head_of, is_link, link_of}
 use Rattle.pcap_file.specs.Records.{Answers, Stop, AtEnd, Failed, AtBound, cut_off, ended, first, records, records_behind, records_from, record_of, captured_of, end_of_head, Ends, IsWhole, held_by, CountsBy, StepsTo, ClosesAs}
 use Rattle.pcap_file.specs.Taking.{most_bytes, Takes, Tells, Counts}

@@ -1,5 +1,5 @@
 -- The records of bytes, case by case, and with more bytes behind.
-use Rattle.std.proofs.Common.{◌≡◌, ℕ, zero, suc, ◌+◌, ◌-◌, ◌<◌, ◌≤◌, ◌==◌, Bool, true, false, nat_lt, if◌then◌else◌, List, [], ◌∷◌, ◌++◌, length, take, drop, Option, Result, Ok, Err, refl, sym, ap, subst, ◌∙◌, arith, eqb, length-append}
+use Rattle.std.proofs.Common.{◌≡◌, ℕ, zero, suc, ◌+◌, ◌<◌, ◌≤◌, ◌==◌, Bool, true, false, nat_lt, if◌then◌else◌, List, [], ◌∷◌, ◌++◌, length, take, drop, Option, Err, refl, sym, ap, ◌∙◌, arith, length-append}
 use Rattle.std.proofs.lemmas.Bool.{lt-ltb, le-ltb, eqb-true}
 use Rattle.std.proofs.lemmas.List.{drop-append-le, take-append-le, length-drop}
 use Rattle.byteorder.specs.Endian.{big_number, little_number}
@@ -7,13 +7,12 @@ use Rattle.byteorder.specs.Numbers.{big_from-append, little_from-append}
 use Rattle.vast_io.specs.Told.{IsAtEnd}
 use Rattle.pcap_file.specs.Heads.{number_at}
 use Rattle.pcap_file.specs.Records.{Answers, Stop, AtEnd, Failed, AtBound, end_of, cut_off, ended, first, records_within, records_from, record_of, captured_of, size_of_record, nanoseconds, end_after, Ends, IsWhole, held_by, CountsBy}
-use Rattle.pcap_file.specs.Taking.{most_bytes, AreHeld, Takes, Tells, Counts}
+use Rattle.pcap_file.specs.Taking.{most_bytes, Takes, Tells, Counts}
 use Rattle.pcap_file.specs.declared.head.Order.{Order}
 use Rattle.pcap_file.specs.declared.head.Order.TheVariants.{Big, Little}
 use Rattle.pcap_file.specs.declared.head.FileHead.{FileHead}
 use Rattle.pcap_file.specs.declared.record.Captured.{Captured}
-use Rattle.pcap_file.specs.declared.end.PcapEnd.{PcapEnd}
-use Rattle.pcap_file.specs.declared.end.PcapEnd.TheVariants.{Done, Fault, ReadFault, TooLong, Memory}
+use Rattle.pcap_file.specs.declared.end.PcapEnd.TheVariants.{Fault, ReadFault, TooLong}
 use Rattle.pcap_file.specs.declared.end.CaptureFault.TheVariants.{RecordTooLong, ShortRecord}
 use Rattle.pcap_file.specs.declared.fill.Filled.{Filled}
 use Rattle.pcap_file.specs.declared.fill.Filled.TheVariants as filled

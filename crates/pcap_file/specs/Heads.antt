@@ -1,5 +1,5 @@
 -- The head of a capture file: 24 bytes.
-use Rattle.std.specs.Prelude.{ℕ, ◌==◌, ◌||◌, ◌%◌, ◌^◌, Bool, not, if◌then◌else◌, List, drop, Option, Some, None, Result, Ok, Err}
+use Rattle.std.specs.Prelude.{ℕ, ◌==◌, ◌||◌, ◌%◌, Bool, not, if◌then◌else◌, List, drop, Option, Some, None, Result, Ok, Err}
 use Rattle.byteorder.specs.Endian.{big_number, little_number}
 use Rattle.pcap_file.specs.declared.head.Order.{Order}
 use Rattle.pcap_file.specs.declared.head.Order.TheVariants.{Big, Little}

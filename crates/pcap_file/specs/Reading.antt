@@ -1,5 +1,5 @@
 -- What contracts see of a reader, and what is still to come from it.
-use Rattle.std.specs.Prelude.{◌≡◌, ℕ, zero, ◌+◌, ◌*◌, ◌<◌, ◌≤◌, List, ◌++◌, length, Option, Result, Ok, Err}
+use Rattle.std.specs.Prelude.{◌≡◌, ℕ, ◌+◌, ◌*◌, ◌≤◌, List, ◌++◌, Option, Result, Ok, Err}
 use Rattle.std.specs.Io.KnownBytes.{prepend_known}
 use Rattle.pcap_file.specs.Taking.{most_bytes}
 use Rattle.pcap_file.specs.Records.{Answers, Stop, ended, first, records, records_from, Ends, CountsBy}

@@ -13,3 +13,6 @@ mod record;
 pub use end::{CaptureFault, PcapEnd};
 pub use reader::PcapReader;
 pub use record::Captured;
+
+#[cfg(test)]
+mod tests;

@@ -1,6 +1,5 @@
-use Rattle.std.proofs.Common.{◌≡◌, ◌≤◌, ◌+◌, ◌-◌, length, ap, arith}
+use Rattle.std.proofs.Common.{length, ap, arith}
 use Rattle.std.proofs.lemmas.List.{length-drop}
-use Rattle.pcap_file.specs.Records.{records_from}
 use Rattle.pcap_file.proofs.HeadLemmas.{closes_open, steps_open}
 use Rattle.pcap_file.proofs.opening.first_record.Goals as goal
 

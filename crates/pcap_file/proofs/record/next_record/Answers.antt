@@ -1,4 +1,4 @@
-use Rattle.std.proofs.Common.{◌≡◌, List, ℕ, ap, ◌∙◌}
+use Rattle.std.proofs.Common.{ap, ◌∙◌}
 use Rattle.pcap_file.specs.Records.{record_of}
 use Rattle.pcap_file.proofs.HeadLemmas.{steps_next}
 use Rattle.pcap_file.proofs.record.next_record.Goals as goal

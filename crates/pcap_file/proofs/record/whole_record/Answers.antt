@@ -1,8 +1,8 @@
-use Rattle.std.proofs.Common.{◌≡◌, ◌<◌, ◌≤◌, ◌+◌, ◌==◌, ℕ, List, length, ap, sym, ◌∙◌, arith, subst, false}
+use Rattle.std.proofs.Common.{◌≡◌, ◌<◌, ◌≤◌, ◌+◌, ◌==◌, ℕ, List, length, ap, ◌∙◌, arith, subst, false}
 use Rattle.pcap_file.specs.Records.{captured_of, size_of_record}
 use Rattle.pcap_file.specs.Taking.{Counts}
 use Rattle.pcap_file.proofs.ByteLemmas.{takes_more}
-use Rattle.pcap_file.proofs.RecordLemmas.{captured_append, captured_taken, counts_end, cut_ends, few_ends, room_end, takes_end, too_long}
+use Rattle.pcap_file.proofs.RecordLemmas.{captured_taken, counts_end, cut_ends, few_ends, room_end, takes_end, too_long}
 use Rattle.pcap_file.proofs.record.whole_record.Goals as goal
 
 pub returns-in_default : goal.returns-in_default
