@@ -1,12 +1,13 @@
 //! Measures parts of the program, for the scripts of bench/. It is no part of the product.
 #![tactic(auto)]
 
+mod packets;
 mod turns;
 
 use std::env;
 use std::process::ExitCode;
 
-const USAGE: &str = "measure turns THREADS TURNS";
+const USAGE: &str = "measure turns THREADS TURNS, measure decode PACKETS";
 
 fn main(rt: HostRuntime) -> anyhow::Result<ExitCode> {
     let mut words = env::args(&rt)?;
@@ -20,6 +21,14 @@ fn main(rt: HostRuntime) -> anyhow::Result<ExitCode> {
             let spent = turns::measure(&rt, rt.alloc(), threads, turns)?;
             println!(rt; "book {}", spent.book.as_nanos())?;
             println!(rt; "mutex {}", spent.mutex.as_nanos())?;
+            return Ok(ExitCode::SUCCESS);
+        }
+    }
+    if what == Some("decode") {
+        let packets = words.next().and_then(|word| word.parse().ok());
+        if let Some(packets) = packets {
+            let with_ports = packets::decode_all(packets);
+            println!(rt; "ports {with_ports}")?;
             return Ok(ExitCode::SUCCESS);
         }
     }

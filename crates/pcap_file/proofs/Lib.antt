@@ -1,0 +1,3 @@
+mod ByteLemmas
+mod RecordLemmas
+mod HeadLemmas

@@ -1,0 +1,5 @@
+mod FlowLemmas
+mod PlaceLemmas
+mod KeyLemmas
+mod GroupLemmas
+mod LayoutLemmas
