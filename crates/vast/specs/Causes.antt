@@ -10,7 +10,7 @@ use Rattle.zeek_log.specs.Steps.{Steps, steps_of_source}
 use Rattle.vast.specs.declared.status.Status.{Status}
 use Rattle.vast.specs.declared.status.Status.TheVariants.{Done, Usage, QueryRefused, OpenFault, WriteFault, ReadFault, InputFault, TooLong, Memory}
 use Rattle.vast.specs.Queries.{query_of}
-use Rattle.vast.specs.Texts.{scan_text, line}
+use Rattle.vast.specs.Texts.{scan_text, line, escaped}
 use Rattle.vast.specs.Words.{Scan, scan_of}
 
 abbrev pub IsFault : ZeekEnd → Type 0
@@ -66,7 +66,7 @@ abbrev pub refused_line : List ℕ
 refused_line = line (codes "query p1 at 0 Unexpected")
 
 abbrev pub open_line : List ℕ → List ℕ
-open_line name = line (codes "open " ++ name)
+open_line name = line (codes "open " ++ escaped name)
 
 -- what was written where no source was opened
 abbrev pub SaysEarly : List (List ℕ) → Status → ℕ → ℕ → Option (List ℕ) → Option (List ℕ) → Type 0

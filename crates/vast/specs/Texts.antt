@@ -1,7 +1,7 @@
 -- The texts that the commands write.
-use Rattle.std.specs.Prelude.{ℕ, Bool, true, false, List, [], ◌∷◌, ◌++◌, Option, None, Some, map, filter, codes}
+use Rattle.std.specs.Prelude.{ℕ, ◌+◌, ◌/◌, ◌%◌, ◌||◌, ◌==◌, if◌then◌else◌, nat_lt, nat_le, List, [], ◌∷◌, ◌++◌, codes}
 use Rattle.std.specs.Fmt.{decimal}
-use Rattle.std.specs.List.{flat_map}
+use Rattle.std.specs.List.{filter, flat_map}
 use Rattle.vast_value.specs.declared.value.Value.{Value}
 use Rattle.vast_value.specs.declared.value.Value.TheVariants as value
 use Rattle.vast_value.specs.declared.cell.Cell.{Cell}
@@ -45,6 +45,19 @@ cell_text _ = []
 -- the path, and each cell behind a tab
 abbrev pub row_text : Event → List ℕ
 row_text event = event.heading.path ++ flat_map (λ x. 9 ∷ cell_text x) event.cells
+
+abbrev pub hexadecimal : ℕ → ℕ
+hexadecimal digit = if nat_lt digit 10 then 48 + digit else 87 + digit
+
+-- A backslash stands twice, and a byte that is no printable character of ASCII is `\\x` and two hexadecimal digits.
+abbrev pub escaped_byte : ℕ → List ℕ
+escaped_byte b =
+    if b == 92 then 92 ∷ (92 ∷ [])
+    else (if nat_lt b 32 || nat_le 127 b then 92 ∷ (120 ∷ (hexadecimal (b / 16) ∷ (hexadecimal (b % 16) ∷ []))) else b ∷ [])
+
+-- the plain escape of a name
+abbrev pub escaped : List ℕ → List ℕ
+escaped name = flat_map escaped_byte name
 
 abbrev pub line : List ℕ → List ℕ
 line text = text ++ 10 ∷ []

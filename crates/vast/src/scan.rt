@@ -53,7 +53,10 @@ pub fn scan_source<S: Source, K: Sink>(
     ensures write { result ≡ Status.WriteFault → Rose (K.faults sink.old) (K.faults sink.new) }
     ensures tells { is_some (S.left source.new) ≡ is_some (S.left source.old) }
 {
-    let mut reader = ZeekReader::new();
+    let Ok(reader) = ZeekReader::new(alloc) else {
+        return Status::Memory;
+    };
+    let mut reader = reader;
     let answer = reader.next(alloc, source);
     scan_answers(alloc, expr, source, sink, reader, answer)
 }

@@ -1,8 +1,9 @@
 //! The texts of rows and ends.
-ghost use Rattle.std.specs.Prelude.{◌≡◌, ◌++◌, ◌∷◌, [], codes, IfOk, OnOk};
+ghost use Rattle.std.specs.Prelude.{◌≡◌, ◌<◌, ◌++◌, ◌∷◌, codes, IfOk, OnOk};
 ghost use Rattle.std.specs.Fmt.{decimal};
 ghost use Rattle.vast_value.specs.Headings.{heading_of};
-ghost use Rattle.vast.specs.Texts.{row_text, cell_text, value_text, line, fault_name, end_text};
+ghost use Rattle.vast.specs.Causes.{open_line};
+ghost use Rattle.vast.specs.Texts.{row_text, cell_text, value_text, line, fault_name, end_text, escaped, escaped_byte, hexadecimal};
 
 use std::alloc::{AllocError, Global};
 use vast_value::{Bytes, Cell, Layout, Row, Value};
@@ -48,6 +49,46 @@ fn push_number(alloc: Global, text: &mut Bytes, number: u64) -> Result<(), Alloc
 {
     let digits = number.to_string(alloc)?;
     text.append(digits.as_bytes())
+}
+
+/// The line of a name that could not be opened, by the plain escape.
+pub fn open_line(alloc: Global, name: &str) -> Result<Bytes, AllocError>
+    ensures { IfOk result (λ text. text ≡ open_line name.now) }
+{
+    let mut text = Bytes::new(alloc);
+    text.append(b"open ")?;
+    push_escaped(&mut text, name.as_bytes())?;
+    text.push(b'\n')?;
+    Ok(text)
+}
+
+fn push_escaped(text: &mut Bytes, name: &[u8]) -> Result<(), AllocError>
+    ensures { OnOk result (text.new ≡ text.old ++ escaped name.now) }
+{
+    for byte in name {
+        push_escaped_byte(text, *byte)?;
+    }
+    Ok(())
+}
+
+fn push_escaped_byte(text: &mut Bytes, byte: u8) -> Result<(), AllocError>
+    ensures { OnOk result (text.new ≡ text.old ++ escaped_byte byte) }
+{
+    if byte == b'\\' {
+        return text.append(b"\\\\");
+    }
+    if byte < 32 || 127 <= byte {
+        let digits = [b'\\', b'x', hexadecimal(byte / 16), hexadecimal(byte % 16)];
+        return text.append(&digits);
+    }
+    text.push(byte)
+}
+
+fn hexadecimal(digit: u8) -> u8
+    requires { digit < 16 }
+    ensures { result ≡ hexadecimal digit }
+{
+    if digit < 10 { 48 + digit } else { 87 + digit }
 }
 
 /// The line of an end; the empty text for `Done` and `Memory`.

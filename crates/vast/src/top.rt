@@ -1,19 +1,19 @@
 //! The top call: from the words of a command and the outside to the text that is written.
-ghost use Rattle.std.specs.Prelude.{◌≡◌, ◌≤◌, None, map, IfOk, IsSome, IfSome, IfNone, IsSomeAnd};
+ghost use Rattle.std.specs.Prelude.{◌≡◌, ◌≤◌, None, map, IsSome, IfSome, IfNone, IsSomeAnd};
 ghost use Rattle.std.specs.String.{string_bytes};
 ghost use Rattle.vast_io.specs.Causes.{Rose};
-ghost use Rattle.vast.specs.Causes.{Exactly, IsRefused, Says, SaysEarly, Scans, WasOpened, usage_line, refused_line, open_line};
+ghost use Rattle.vast.specs.Causes.{Exactly, IsRefused, Says, SaysEarly, Scans, WasOpened, usage_line, refused_line};
 ghost use Rattle.vast.specs.Words.{scan_of};
 
 use crate::query::read_query;
 use crate::scan::scan_source;
 use crate::status::Status;
+use crate::texts::open_line;
 use crate::words::scan_words;
-use std::alloc::{AllocError, Global};
+use std::alloc::Global;
 use std::sync::Wait;
 use std::thread::Threads;
 use vast_io::{Gate, OpenEnd, Opener, Sink, write_all};
-use vast_value::Bytes;
 
 /// How a command ended.
 #[derive(Drop)]
@@ -108,14 +108,4 @@ fn say<K: Sink>(sink: &mut K, text: &[u8])
     ensures later { K.faults sink.old ≤ K.faults sink.new }
 {
     let _ = write_all(sink, text);
-}
-
-fn open_line(alloc: Global, name: &str) -> Result<Bytes, AllocError>
-    ensures { IfOk result (λ text. text ≡ open_line name.now) }
-{
-    let mut text = Bytes::new(alloc);
-    text.append(b"open ")?;
-    text.append(name.as_bytes())?;
-    text.push(b'\n')?;
-    Ok(text)
 }

@@ -43,12 +43,12 @@ impl Model for ZeekReader {
 
 impl ZeekReader {
     /// A reader that has read nothing.
-    pub fn new() -> Self
-        ensures { result ≡ Fresh }
+    pub fn new(_alloc: Global) -> Result<Self, AllocError>
+        ensures { IfOk result (λ reader. reader ≡ Fresh) }
     {
-        ZeekReader {
+        Ok(ZeekReader {
             state: State::Fresh,
-        }
+        })
     }
 
     /// The next step of the log, or its end. The first call takes the whole source.
@@ -167,7 +167,7 @@ mod tests {
         let alloc = rt.alloc();
         let text = b"#separator \\x09\n#path\td\n#fields\tname\tn\n#types\tstring\tcount\nann\t3";
         let mut source = MemSource::new(Bytes::copy(alloc, text)?, 7, Vec::new(alloc));
-        let mut reader = ZeekReader::new();
+        let mut reader = ZeekReader::new(alloc)?;
         match reader.next(alloc, &mut source) {
             Ok(Step::Head(layout)) => assert_eq!(rt; layout.columns().len(), 2),
             _ => return Err("no head".into()),

@@ -11,7 +11,7 @@ returns-clause-told g c =
     let before = g.K.Sink.written c.args.sink.now in
     let now = g.K.Sink.written c.scan_answers.new.sink in
     let status = c.scan_answers.result in
-    let fresh : is_fresh c.new-reader.result ≡ true = ap (λ (r : Reading). is_fresh r) c.new-reader.ensures in
+    let fresh : is_fresh c.in-Ok.reader ≡ true = ap (λ (r : Reading). is_fresh r) c.in-Ok.ensures in
     let told : TellsOf status left (g.S.Source.left c.next-answer.new.source) faults (g.S.Source.faults c.next-answer.new.source) c.args.expr.now before now =
     told_first left (g.S.Source.left c.next-answer.new.source) faults (g.S.Source.faults c.next-answer.new.source) c.next-answer.new.self c.next-answer.result
     status c.args.expr.now before now (c.next-answer.ensures.first fresh) c.scan_answers.ensures.told in
