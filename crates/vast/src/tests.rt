@@ -6,7 +6,7 @@ use std::test::Fail;
 use vast_io::{File, Files, MemOpener, MemSink};
 use vast_value::Bytes;
 
-const D1: &[u8] =
+const ANN_LOG: &[u8] =
     b"#separator \\x09\n#path\td\n#fields\tname\tkind\tn\n#types\tstring\tenum\tcount\nann\tA\t3\n";
 
 // How the outside fails: the numbers of its failing openings, reads and writes.
@@ -23,7 +23,7 @@ const NEVER: u64 = 1000;
 fn opener(alloc: Global, failing: &Failing) -> Result<MemOpener, AllocError> {
     let mut files = Files::new(alloc);
     let mut log = Bytes::new(alloc);
-    log.append(D1)?;
+    log.append(ANN_LOG)?;
     let mut head = Bytes::new(alloc);
     head.append(b"#separator \\x09\n#path\td\n#fields\tname\tkind\tn\n")?;
     files.push(file(alloc, b"d1", log, failing)?)?;
