@@ -32,7 +32,7 @@ abbrev heading : Heading
 heading = record {
   path = codes "d";
   fields = record { name = codes "name"; kind = kind.One elem.Text }
-      ∷ (record { name = codes "kind"; kind = kind.One elem.Name } ∷ (record { name = codes "n"; kind = kind.One elem.Count } ∷ []))
+      ∷ (record { name = codes "kind"; kind = kind.One elem.Name } ∷ (record { name = codes "n"; kind = kind.One elem.Count } ∷ []));
 }
 
 name_is_ann : query_of (codes "name == \"ann\"") ≡ Some (equals_query (codes "name") (Text (codes "ann")))
