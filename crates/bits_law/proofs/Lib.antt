@@ -1,0 +1,4 @@
+pub mod BitwiseLemmas
+pub mod NumberLemmas
+pub mod RefusalLemmas
+pub mod TableLemmas
