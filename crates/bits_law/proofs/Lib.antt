@@ -2,3 +2,4 @@ pub mod BitwiseLemmas
 pub mod NumberLemmas
 pub mod RefusalLemmas
 pub mod TableLemmas
+pub mod AnswerLemmas
