@@ -1,10 +1,9 @@
-ghost use Rattle.std.specs.Prelude.{◌≡◌, ◌+◌, ◌-◌, ◌^◌, ◌<◌, ◌≤◌, ◌++◌, true, false, replicate, IsOk, OnOk, OnErr, vec_len, vec_capacity, nat_le, length};
+ghost use Rattle.std.specs.Prelude.{◌≡◌, ◌+◌, ◌-◌, ◌^◌, ◌<◌, ◌≤◌, ◌++◌, true, false, replicate, IsOk, OnOk, OnErr, vec_len, vec_capacity, nat_le, length, count_by};
 ghost use Rattle.std.specs.List.Sorted.{IsPartitionedBy, IsPartitionPoint};
 ghost use Rattle.runs_bitmap.specs.Runs.{rendered, AreApart};
 
-use std::alloc::AllocError;
-
 use crate::run::Run;
+use std::alloc::AllocError;
 
 /// Appends ones from `from` up to `to` to runs of `from` bits. Only where a run begins is anything allocated.
 pub fn lengthen(runs: &mut Vec<Run>, from: u64, to: u64) -> Result<(), AllocError>
@@ -29,6 +28,20 @@ pub fn lengthen(runs: &mut Vec<Run>, from: u64, to: u64) -> Result<(), AllocErro
     Ok(())
 }
 
+/// Appends `n` equal bits to runs of `len` bits.
+pub fn extend(runs: &mut Vec<Run>, len: u64, bit: bool, n: u64) -> Result<(), AllocError>
+    requires apart { AreApart 0 runs.old.items len }
+    requires short { len + n ≤ 2 ^ 40 }
+    ensures bits { OnOk result (rendered 0 runs.new.items (len + n) ≡ rendered 0 runs.old.items len ++ replicate n bit) }
+    ensures apart { OnOk result (AreApart 0 runs.new.items (len + n)) }
+    ensures err { OnErr result (runs.new.items ≡ runs.old.items) }
+{
+    if bit && n > 0 {
+        lengthen(runs, len, len + n)?;
+    }
+    Ok(())
+}
+
 /// Appends the bits of `more` to runs of `len` bits.
 pub fn join(runs: &mut Vec<Run>, len: u64, more: &[Run], more_len: u64) -> Result<(), AllocError>
     requires apart { AreApart 0 runs.old.items len }
@@ -49,7 +62,21 @@ pub fn join(runs: &mut Vec<Run>, len: u64, more: &[Run], more_len: u64) -> Resul
 /// How many runs end at or before `at`.
 pub fn ended_by(runs: &[Run], at: u64) -> usize
     requires { IsPartitionedBy (λ r. nat_le r.end at) runs.now }
-    ensures { IsPartitionPoint (λ r. nat_le r.end at ≡ true) (λ r. nat_le r.end at ≡ false) runs.now result }
+    ensures within { result ≤ length runs.now }
+    ensures place { IsPartitionPoint (λ r. nat_le r.end at ≡ true) (λ r. nat_le r.end at ≡ false) runs.now result }
 {
     runs.partition_point(|run| run.end <= at)
+}
+
+/// How many ones there are.
+pub fn ones(runs: &[Run], len: u64) -> u64
+    requires { AreApart 0 runs.now len }
+    ensures { result ≡ count_by (λ bit. bit) (rendered 0 runs.now len) }
+{
+    let mut ones = 0;
+    for run in runs {
+        ones += run.end - run.start;
+    }
+    let _ = len;
+    ones
 }

@@ -8,3 +8,6 @@ mod run;
 mod sweep;
 
 pub use bitmap::RunsBitmap;
+
+#[cfg(test)]
+mod tests;

@@ -4,6 +4,7 @@ ghost use Rattle.runs_bitmap.specs.Runs.{rendered, AreAhead, bit_at, stretch_at,
 use crate::run::Run;
 
 /// A place in a bitmap, and the runs that end after it.
+#[derive(Drop)]
 pub struct Sweep<'a> {
     runs: &'a [Run],
     at: u64,

@@ -35,9 +35,9 @@ returns-then-index-from-clause-apart c =
 
 free : (c : goal.In_ok-push) → free_from 0 c.args.runs.now.items ≤ c.args.from
 free c = elim c.else-count-gt0.branch [
-    else-count-gt0-via-then-count-gt0+else-index-from w ↦ free_when c.args.runs.now.items c.args.from c.len-count.result _ c.requires.apart (omega (arith, c.len-count.ensures)) (omega (arith, w.if-count-gt0.true)) w.index.ensures w.if-index-from.false
+  | else-count-gt0-via-then-count-gt0+else-index-from w ↦ free_when c.args.runs.now.items c.args.from c.len-count.result _ c.requires.apart (omega (arith, c.len-count.ensures)) (omega (arith, w.if-count-gt0.true)) w.index.ensures w.if-index-from.false
   | else-count-gt0-via-else-count-gt0 w ↦ free_none c.args.runs.now.items c.args.from (omega (arith, c.len-count.ensures, w.if-count-gt0.false))
-  ]
+]
 
 pub returns-clause-ones : goal.returns-clause-ones
 returns-clause-ones c =

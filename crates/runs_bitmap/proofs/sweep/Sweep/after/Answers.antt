@@ -1,5 +1,3 @@
-use Rattle.std.proofs.Common.{◌≡◌, ◌+◌, ◌++◌, replicate, sym, ◌∙◌, ap, subst}
-use Rattle.runs_bitmap.specs.Runs.{rendered, AreAhead, bit_at, runs_after}
 use Rattle.runs_bitmap.proofs.RunLemmas.{after_stretch}
 use Rattle.runs_bitmap.proofs.sweep.Sweep.after.Goals as goal
 
