@@ -1,11 +1,11 @@
 -- Answers about the keys that a table stands for.
-use Rattle.std.proofs.Common.{◌≡◌, ℕ, zero, suc, ◌+◌, ◌-◌, ◌*◌, ◌/◌, ◌%◌, ◌^◌, ◌<◌, ◌≤◌, Bool, false, eqb, List, [], ◌∷◌, length, get_or, take, not, ◌&&◌, ◌||◌, Option, None, Some, refl, ap, sym, ◌∙◌, arith}
+use Rattle.std.proofs.Common.{◌≡◌, ℕ, zero, suc, ◌+◌, ◌-◌, ◌*◌, ◌/◌, ◌%◌, ◌^◌, ◌<◌, ◌≤◌, Bool, false, eqb, List, [], ◌∷◌, length, get_or, take, not, ◌&&◌, ◌||◌, Option, None, Some, refl, ap, sym, ◌∙◌, subst, replicate, ◌++◌, arith}
 use Rattle.std.proofs.lemmas.Grind.{common_steps}
 use Rattle.std.proofs.lemmas.Nat.{mod-pow-add, shr-shr}
 use Rattle.std.proofs.lemmas.Bool.Decides.{nat_tests}
 use Rattle.std.proofs.lemmas.List.{ext_get_or, get_or-map, length-map, take_all}
 use Rattle.bits_law.specs.Bitwise.{bitwise, and_not}
-use Rattle.bits_law.specs.Keys.{meets, answers}
+use Rattle.bits_law.specs.Keys.{meets, answers, with_gap, with_key, EachKey}
 use Rattle.bits_law.specs.Numbers.{then_bit, number_at, IsAnswer}
 use Rattle.bits_law.proofs.NumberLemmas.{number_at-more}
 
@@ -82,3 +82,29 @@ module _ {K : Type 0} where
           ∙ ap (λ y. then_bit (y % 2 ^ i) (eqb (x / 2 ^ (m + (n - suc i)) % 2) 1)) (sym (shr-shr x (m + (n - suc i)) 1))
           ∙ one_more (x / 2 ^ (m + (n - suc i))) i
           ∙ ap (λ c. x / 2 ^ (m + (n - suc i)) % 2 ^ c) more
+
+-- conditions on keys, as the list grows
+pub EachKey-gap : {K : Type 0} (P : K → Type 0) (keys : List (Option K)) (rows : ℕ) → EachKey P keys → EachKey P (with_gap keys rows)
+EachKey-gap P keys rows h row key e = in_gap P keys (rows - length keys) row key h e
+ where
+  in_none : {K : Type 0} (n row : ℕ) (key : K) → get_or (replicate n None) row None ≡ Some key → ⊥
+  in_none zero row key e = cc
+  in_none (suc n) zero key e = cc
+  in_none (suc n) (suc row) key e = in_none n row key e
+
+  in_gap : {K : Type 0} (P : K → Type 0) (keys : List (Option K)) (n row : ℕ) (key : K) → EachKey P keys → get_or (keys ++ replicate n None) row None ≡ Some key → P key
+  in_gap P [] n row key h e = absurd (in_none n row key e)
+  in_gap P (k ∷ keys) n zero key h e = h zero key e
+  in_gap P (k ∷ keys) n (suc row) key h e = in_gap P keys n row key (λ i q d. h (suc i) q d) e
+
+pub EachKey-append : {K : Type 0} (P : K → Type 0) (keys more : List (Option K)) → EachKey P keys → EachKey P more → EachKey P (keys ++ more)
+EachKey-append P [] more h m row key e = m row key e
+EachKey-append P (k ∷ keys) more h m zero key e = h zero key e
+EachKey-append P (k ∷ keys) more h m (suc row) key e = EachKey-append P keys more (λ i q d. h (suc i) q d) m row key e
+
+pub EachKey-key : {K : Type 0} (P : K → Type 0) (keys : List (Option K)) (row : ℕ) (key : K) → EachKey P keys → P key → EachKey P (with_key keys row key)
+EachKey-key P keys row key h p = EachKey-append P (with_gap keys row) (Some key ∷ []) (EachKey-gap P keys row h) (only P key p)
+ where
+  only : {K : Type 0} (P : K → Type 0) (key : K) → P key → EachKey P (Some key ∷ [])
+  only P key p zero q e = let same : key ≡ q = cc in subst P same p
+  only P key p (suc row) q e = cc

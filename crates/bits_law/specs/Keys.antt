@@ -1,5 +1,5 @@
 -- A list of keys, some missing, grown by gaps: what every index stands for. A row without a key is `None`.
-use Rattle.std.specs.Prelude.{ℕ, ◌-◌, Bool, false, List, [], ◌∷◌, ◌++◌, length, replicate, map, Option, None, Some}
+use Rattle.std.specs.Prelude.{◌≡◌, ℕ, ◌-◌, get_or, Bool, false, List, [], ◌∷◌, ◌++◌, length, replicate, map, Option, None, Some}
 
 -- the list with `none` up to `rows` rows
 abbrev pub padded : {X : Type 0} → X → List X → ℕ → List X
@@ -25,3 +25,7 @@ meets test (Some key) = test key
 -- the answer row by row, false at rows without a key
 abbrev pub answers : {K : Type 0} → (K → Bool) → List (Option K) → List Bool
 answers test keys = map (meets test) keys
+
+-- each key that a row has meets the condition
+abbrev pub EachKey : {K : Type 0} → (K → Type 0) → List (Option K) → Type 0
+EachKey {K} meets_it keys = (row : ℕ) (key : K) → get_or keys row None ≡ Some key → meets_it key

@@ -1,7 +1,11 @@
 -- Numbers that slices spell, one bit in each slice.
-use Rattle.std.specs.Prelude.{◌≡◌, ℕ, ◌+◌, ◌*◌, ◌<◌, Bool, false, List, length, get_or, fold, not, ◌&&◌, if◌then◌else◌, nat_eq, nat_lt, nat_le}
+use Rattle.std.specs.Prelude.{◌≡◌, ℕ, ◌+◌, ◌*◌, ◌/◌, ◌%◌, ◌^◌, ◌<◌, Bool, false, List, length, get_or, fold, not, ◌&&◌, if◌then◌else◌, nat_eq, nat_lt, nat_le}
 use Rattle.bits_law.specs.declared.slices.Order.{Order}
 use Rattle.bits_law.specs.declared.slices.Order.TheVariants.{Eq, Ne, Lt, Le, Gt, Ge}
+
+-- whether the bit `at` of a number is set, the lowest being bit 0
+abbrev pub has_bit : ℕ → ℕ → Bool
+has_bit n at = nat_eq (n / 2 ^ at % 2) 1
 
 -- a binary number with one more digit
 abbrev pub then_bit : ℕ → Bool → ℕ

@@ -1,7 +1,7 @@
 ghost use Rattle.std.specs.Prelude.{◌≡◌, ℕ, ◌+◌, ◌-◌, ◌^◌, ◌<◌, ◌≤◌, ◌++◌, ◌∷◌, [], Bool, true, false, List, length, map, replicate, get_or, IfOk, IfErr, OnOk};
 ghost use Rattle.bits_law.specs.declared.bits.BitsEnd.TheVariants.{Memory};
 ghost use Rattle.bits_law.specs.Keys.{padded, placed};
-ghost use Rattle.bits_law.specs.Contents.{Contents, IsPlaced, IsPadded, IsJoined, ChangedTo};
+ghost use Rattle.bits_law.specs.Contents.{Contents, IsPlaced, IsPadded, IsJoined, IsEven, ChangedTo};
 ghost use Rattle.bits_law.specs.Refusal.{refusal, rows_to};
 
 use crate::bits::{Bits, BitsEnd, LONGEST};
@@ -137,7 +137,8 @@ impl<B: Bits> Table<B> {
 
     /// The columns.
     pub fn columns(&self) -> &[B]
-        ensures { map B.bits result.now ≡ self.now.columns }
+        ensures value { map B.bits result.now ≡ self.now.columns }
+        ensures even { IsEven self.now }
     {
         self.columns.as_slice()
     }

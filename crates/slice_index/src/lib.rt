@@ -1,13 +1,8 @@
-// A library with one function.
+//! Numbers by slices: one bitmap for each bit of the keys, and one of the rows that have a key.
+//!
+//! A relation to a key is found from the highest slice down, with two or three bitmap operations for each slice.
 #![tactic(auto)]
 
-ghost use Rattle.std.specs.Prelude.{◌≡◌};
-ghost use Rattle.slice_index.specs.Echo.{echo_of};
+mod index;
 
-// The `ensures` clause is the contract: what `echo` returns is `echo_of` of its argument, a definition
-// in `specs/Echo.antt`, which a caller's clause can cite too.
-pub fn echo(x: usize) -> usize
-    ensures { result ≡ echo_of x }
-{
-    x
-}
+pub use index::SliceIndex;
