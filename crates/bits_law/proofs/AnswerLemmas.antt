@@ -86,16 +86,16 @@ module _ {K : Type 0} where
 -- conditions on keys, as the list grows
 pub EachKey-gap : {K : Type 0} (P : K → Type 0) (keys : List (Option K)) (rows : ℕ) → EachKey P keys → EachKey P (with_gap keys rows)
 EachKey-gap P keys rows h row key e = in_gap P keys (rows - length keys) row key h e
- where
-  in_none : {K : Type 0} (n row : ℕ) (key : K) → get_or (replicate n None) row None ≡ Some key → ⊥
-  in_none zero row key e = cc
-  in_none (suc n) zero key e = cc
-  in_none (suc n) (suc row) key e = in_none n row key e
+  where
+    in_none : {K : Type 0} (n row : ℕ) (key : K) → get_or (replicate n None) row None ≡ Some key → ⊥
+    in_none zero row key e = cc
+    in_none (suc n) zero key e = cc
+    in_none (suc n) (suc row) key e = in_none n row key e
 
-  in_gap : {K : Type 0} (P : K → Type 0) (keys : List (Option K)) (n row : ℕ) (key : K) → EachKey P keys → get_or (keys ++ replicate n None) row None ≡ Some key → P key
-  in_gap P [] n row key h e = absurd (in_none n row key e)
-  in_gap P (k ∷ keys) n zero key h e = h zero key e
-  in_gap P (k ∷ keys) n (suc row) key h e = in_gap P keys n row key (λ i q d. h (suc i) q d) e
+    in_gap : {K : Type 0} (P : K → Type 0) (keys : List (Option K)) (n row : ℕ) (key : K) → EachKey P keys → get_or (keys ++ replicate n None) row None ≡ Some key → P key
+    in_gap P [] n row key h e = absurd (in_none n row key e)
+    in_gap P (k ∷ keys) n zero key h e = h zero key e
+    in_gap P (k ∷ keys) n (suc row) key h e = in_gap P keys n row key (λ i q d. h (suc i) q d) e
 
 pub EachKey-append : {K : Type 0} (P : K → Type 0) (keys more : List (Option K)) → EachKey P keys → EachKey P more → EachKey P (keys ++ more)
 EachKey-append P [] more h m row key e = m row key e
@@ -104,7 +104,7 @@ EachKey-append P (k ∷ keys) more h m (suc row) key e = EachKey-append P keys m
 
 pub EachKey-key : {K : Type 0} (P : K → Type 0) (keys : List (Option K)) (row : ℕ) (key : K) → EachKey P keys → P key → EachKey P (with_key keys row key)
 EachKey-key P keys row key h p = EachKey-append P (with_gap keys row) (Some key ∷ []) (EachKey-gap P keys row h) (only P key p)
- where
-  only : {K : Type 0} (P : K → Type 0) (key : K) → P key → EachKey P (Some key ∷ [])
-  only P key p zero q e = let same : key ≡ q = cc in subst P same p
-  only P key p (suc row) q e = cc
+  where
+    only : {K : Type 0} (P : K → Type 0) (key : K) → P key → EachKey P (Some key ∷ [])
+    only P key p zero q e = let same : key ≡ q = cc in subst P same p
+    only P key p (suc row) q e = cc
