@@ -1,5 +1,5 @@
 -- What a slice index stands for.
-use Rattle.std.specs.Prelude.{◌≡◌, ℕ, ◌+◌, ◌-◌, ◌^◌, ◌<◌, ◌≤◌, Bool, List, length, Option}
+use Rattle.std.specs.Prelude.{ℕ, ◌-◌, ◌^◌, ◌<◌, Bool, List, Option}
 use Rattle.bits_law.specs.Keys.{EachKey}
 use Rattle.bits_law.specs.Numbers.{has_bit}
 use Rattle.bits_law.specs.Contents.{Contents, StandsFor}

@@ -4,9 +4,8 @@ ghost use Rattle.bits_law.specs.Numbers.{holds};
 ghost use Rattle.bits_law.specs.Refusal.{refusal, rows_to};
 ghost use Rattle.slice_index.specs.Slices.{Holds};
 
-use std::alloc::{AllocError, Global};
-
 use bits_law::{Bits, BitsEnd, Order, RowBits, Table, slices_ask};
+use std::alloc::{AllocError, Global};
 
 /// A key of a slice index of `width` slices.
 #[derive(Drop)]
@@ -22,7 +21,9 @@ impl RowBits for SliceKey {
     ghost bit = { λ k j. slice_bit k.width j k.key };
 
     fn bit(&self, column: usize) -> bool {
-        let at = (self.width as usize).saturating_sub(1).saturating_sub(column);
+        let at = (self.width as usize)
+            .saturating_sub(1)
+            .saturating_sub(column);
         self.key >> at & 1 == 1
     }
 }

@@ -5,4 +5,4 @@
 
 mod index;
 
-pub use index::SliceIndex;
+pub use index::{SliceIndex, key_of};
