@@ -1,9 +1,9 @@
 -- Answers about the keys that a table stands for.
-use Rattle.std.proofs.Common.{◌≡◌, ℕ, zero, suc, ◌+◌, ◌-◌, ◌*◌, ◌/◌, ◌%◌, ◌^◌, ◌<◌, ◌≤◌, Bool, false, eqb, List, [], ◌∷◌, length, get_or, take, not, ◌&&◌, ◌||◌, Option, None, Some, refl, ap, sym, ◌∙◌, subst, replicate, ◌++◌, arith}
+use Rattle.std.proofs.Common.{◌≡◌, ℕ, zero, suc, ◌+◌, ◌-◌, ◌*◌, ◌/◌, ◌%◌, ◌^◌, ◌<◌, ◌≤◌, Bool, false, eqb, List, [], ◌∷◌, length, get_or, take, drop, not, ◌&&◌, ◌||◌, Option, None, Some, refl, ap, sym, ◌∙◌, subst, replicate, ◌++◌, arith}
 use Rattle.std.proofs.lemmas.Grind.{common_steps}
 use Rattle.std.proofs.lemmas.Nat.{mod-pow-add, shr-shr}
 use Rattle.std.proofs.lemmas.Bool.Decides.{nat_tests}
-use Rattle.std.proofs.lemmas.List.{ext_get_or, get_or-map, length-map, take_all}
+use Rattle.std.proofs.lemmas.List.{ext_get_or, get_or-map, length-map, get_or-take, get_or-drop, length-take, length-drop, take_all}
 use Rattle.bits_law.specs.Bitwise.{bitwise, and_not}
 use Rattle.bits_law.specs.Keys.{meets, answers, with_gap, with_key, EachKey}
 use Rattle.bits_law.specs.Numbers.{then_bit, number_at, IsAnswer}
@@ -108,3 +108,16 @@ EachKey-key P keys row key h p = EachKey-append P (with_gap keys row) (Some key 
     only : {K : Type 0} (P : K → Type 0) (key : K) → P key → EachKey P (Some key ∷ [])
     only P key p zero q e = let same : key ≡ q = cc in subst P same p
     only P key p (suc row) q e = cc
+
+-- what is asked of `n` slices from `from` on, among the rows that pass a test, where they hold `n` bits of a number
+-- of each key, from bit `m` on
+pub asked_slices : {K : Type 0} (keys : List (Option K)) (columns : List (List Bool)) (from m n : ℕ) (number : K → ℕ) (p : K → Bool) (relates : ℕ → Bool) (answer among : List Bool) → from + n ≤ length columns → ((j : ℕ) → j < n → get_or columns (from + j) [] ≡ answers (λ k. eqb (number k / 2 ^ (m + (n - 1 - j)) % 2) 1) keys) → among ≡ answers p keys → IsAnswer answer among (λ row. relates (number_at (take n (drop from columns)) row)) → answer ≡ answers (λ k. p k && relates (number k / 2 ^ m % 2 ^ n)) keys
+asked_slices {K} keys columns from m n number p relates answer among w cs e a =
+    asked keys p (λ k. relates (number k / 2 ^ m % 2 ^ n)) (λ row. relates (number_at (take n (drop from columns)) row)) answer among e a
+    (λ row k l q. ap relates (number_at_key bits keys (take n (drop from columns)) row k (number k) m n wide l q (λ j u. get_or-take n (drop from columns) j [] u ∙ get_or-drop from columns j [] ∙ cs j u) (λ j u. refl)))
+ where
+  bits : ℕ → K → Bool
+  bits j k = eqb (number k / 2 ^ (m + (n - 1 - j)) % 2) 1
+
+  wide : length (take n (drop from columns)) ≡ n
+  wide = length-take n (drop from columns) ∙ omega (arith, length-drop from columns)

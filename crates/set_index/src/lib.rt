@@ -1,13 +1,8 @@
-// A library with one function.
+//! Containers by 64 buckets: one bitmap for each bucket, of the rows that take it.
+//!
+//! A bucket is answered by a copy of its bitmap.
 #![tactic(auto)]
 
-ghost use Rattle.std.specs.Prelude.{◌≡◌};
-ghost use Rattle.set_index.specs.Echo.{echo_of};
+mod index;
 
-// The `ensures` clause is the contract: what `echo` returns is `echo_of` of its argument, a definition
-// in `specs/Echo.antt`, which a caller's clause can cite too.
-pub fn echo(x: usize) -> usize
-    ensures { result ≡ echo_of x }
-{
-    x
-}
+pub use index::SetIndex;

@@ -1,13 +1,9 @@
-// A library with one function.
+//! Texts by their length, up to 255, and their first eight bytes: a bitmap for each bit of these.
+//!
+//! Equality is answered by the rows where it is sure, and those where it may be. It costs one comparison of eight
+//! slices for the length and one for each byte.
 #![tactic(auto)]
 
-ghost use Rattle.std.specs.Prelude.{◌≡◌};
-ghost use Rattle.string_index.specs.Echo.{echo_of};
+mod index;
 
-// The `ensures` clause is the contract: what `echo` returns is `echo_of` of its argument, a definition
-// in `specs/Echo.antt`, which a caller's clause can cite too.
-pub fn echo(x: usize) -> usize
-    ensures { result ≡ echo_of x }
-{
-    x
-}
+pub use index::StringIndex;
