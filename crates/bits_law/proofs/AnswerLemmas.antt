@@ -115,9 +115,9 @@ pub asked_slices : {K : Type 0} (keys : List (Option K)) (columns : List (List B
 asked_slices {K} keys columns from m n number p relates answer among w cs e a =
     asked keys p (λ k. relates (number k / 2 ^ m % 2 ^ n)) (λ row. relates (number_at (take n (drop from columns)) row)) answer among e a
     (λ row k l q. ap relates (number_at_key bits keys (take n (drop from columns)) row k (number k) m n wide l q (λ j u. get_or-take n (drop from columns) j [] u ∙ get_or-drop from columns j [] ∙ cs j u) (λ j u. refl)))
- where
-  bits : ℕ → K → Bool
-  bits j k = eqb (number k / 2 ^ (m + (n - 1 - j)) % 2) 1
+  where
+    bits : ℕ → K → Bool
+    bits j k = eqb (number k / 2 ^ (m + (n - 1 - j)) % 2) 1
 
-  wide : length (take n (drop from columns)) ≡ n
-  wide = length-take n (drop from columns) ∙ omega (arith, length-drop from columns)
+    wide : length (take n (drop from columns)) ≡ n
+    wide = length-take n (drop from columns) ∙ omega (arith, length-drop from columns)

@@ -3,3 +3,4 @@ pub mod NumberLemmas
 pub mod RefusalLemmas
 pub mod TableLemmas
 pub mod AnswerLemmas
+pub mod PartLemmas

@@ -17,19 +17,19 @@ holds_new table p w c = record { stands = stands-new 64 takes table p w c; each 
 pub holds_key : (keys : List (Option ℕ)) (old new : Contents) (row : ℕ) (key : ℕ) → IsBuckets key → Holds old keys → IsPlaced old new row (λ j. takes (min j 63) key) → Holds new (with_key keys row key)
 holds_key keys old new row key l h p = record {
   stands = stands-placed 64 takes keys old new row key _ (λ j u. ap (λ i. takes i key) (let e : min j 63 ≡ j = omega arith in e)) h.stands p;
-  each = EachKey-key IsBuckets keys row key h.each l
+  each = EachKey-key IsBuckets keys row key h.each l;
 }
 
 pub holds_gap : (keys : List (Option ℕ)) (old new : Contents) (rows : ℕ) → Holds old keys → IsPadded old new rows → Holds new (with_gap keys rows)
 holds_gap keys old new rows h p = record {
   stands = stands-padded 64 takes keys old new rows h.stands p;
-  each = EachKey-gap IsBuckets keys rows h.each
+  each = EachKey-gap IsBuckets keys rows h.each;
 }
 
 pub holds_joined : (keys more : List (Option ℕ)) (old other new : Contents) → Holds old keys → Holds other more → IsJoined old other new → Holds new (keys ++ more)
 holds_joined keys more old other new h o p = record {
   stands = stands-joined 64 takes keys more old other new h.stands o.stands p;
-  each = EachKey-append IsBuckets keys more h.each o.each
+  each = EachKey-append IsBuckets keys more h.each o.each;
 }
 
 pub holds_rows : (keys : List (Option ℕ)) (table : Contents) → Holds table keys → length table.present ≡ length keys

@@ -4,9 +4,8 @@ ghost use Rattle.bits_law.specs.Numbers.{has_bit};
 ghost use Rattle.bits_law.specs.Refusal.{refusal, rows_to};
 ghost use Rattle.set_index.specs.Buckets.{takes, Holds};
 
-use std::alloc::{AllocError, Global};
-
 use bits_law::{Bits, BitsEnd, RowBits, Table};
+use std::alloc::{AllocError, Global};
 
 /// The buckets that a row takes, one bit for each.
 #[derive(Drop)]

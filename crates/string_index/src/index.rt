@@ -1,12 +1,12 @@
-ghost use Rattle.std.specs.Prelude.{◌≡◌, ◌+◌, ◌-◌, ◌^◌, ◌<◌, ◌≤◌, ◌++◌, ◌&&◌, List, [], length, IfOk, OnOk, IfErr, Option, ℕ, true, nat_le, slice_index, take, drop, min, nat_lt};
+ghost use Rattle.std.specs.Prelude.{◌≡◌, ◌+◌, ◌-◌, ◌^◌, ◌<◌, ◌≤◌, ◌++◌, ◌&&◌, List, [], length, IfOk, OnOk, IfErr, Option, ℕ, true, nat_le, slice_index, take, drop, min, if◌then◌else◌};
+ghost use Rattle.bits_law.specs.Bitwise.{bitwise, and_not};
 ghost use Rattle.bits_law.specs.Keys.{answers, with_gap, with_key};
 ghost use Rattle.bits_law.specs.Numbers.{holds, number_at, IsAnswer};
 ghost use Rattle.bits_law.specs.Refusal.{refusal, rows_to};
 ghost use Rattle.string_index.specs.Texts.{text_bit, short_length, same_start, Holds};
 
-use std::alloc::{AllocError, Global};
-
 use bits_law::{Bits, BitsEnd, Order, RowBits, Table, slices_ask};
+use std::alloc::{AllocError, Global};
 
 /// The bits that a text sets.
 #[derive(Drop)]
@@ -112,11 +112,7 @@ impl<B: Bits> StringIndex<B> {
         ensures maybe { IfOk result (λ r. (keys : List (Option (List ℕ))) → Holds self.now.table keys → B.bits r.1 ≡ answers (λ key. same_start key text.now) keys) }
     {
         let maybe = self.same_start(text)?;
-        let sure = if text.len() <= 8 {
-            maybe.duplicate()?
-        } else {
-            maybe.and_not(&maybe)?
-        };
+        let sure = when(&maybe, text.len() <= 8)?;
         Ok((sure, maybe))
     }
 
@@ -124,7 +120,13 @@ impl<B: Bits> StringIndex<B> {
     pub fn as_long(&self, n: u64) -> Result<B, AllocError>
         ensures { IfOk result (λ b. (keys : List (Option (List ℕ))) → Holds self.now.table keys → B.bits b ≡ answers (λ key. nat_le (min n 255) (short_length key)) keys) }
     {
-        ask_byte(&self.table, self.table.present(), 0, Order::Ge, n.min(255) as u8)
+        ask_byte(
+            &self.table,
+            self.table.present(),
+            0,
+            Order::Ge,
+            n.min(255) as u8,
+        )
     }
 
     /// The rows whose text has the length, up to 255, and the first eight bytes of `text`.
@@ -138,6 +140,17 @@ impl<B: Bits> StringIndex<B> {
             rows = ask_byte(table, &rows, 8 + 8 * at, Order::Eq, byte(text, at))?;
         }
         Ok(rows)
+    }
+}
+
+/// The rows if `holds`, and none if not.
+fn when<B: Bits>(rows: &B, holds: bool) -> Result<B, AllocError>
+    ensures { IfOk result (λ b. B.bits b ≡ (if holds then B.bits rows.now else bitwise and_not (B.bits rows.now) (B.bits rows.now))) }
+{
+    if holds {
+        rows.duplicate()
+    } else {
+        rows.and_not(rows)
     }
 }
 
