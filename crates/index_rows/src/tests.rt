@@ -1,0 +1,62 @@
+use bits_law::{Bits, Order};
+use runs_bitmap::RunsBitmap;
+use set_index::SetIndex;
+use slice_index::SliceIndex;
+use std::alloc::AllocError;
+use std::test::Fail;
+use string_index::StringIndex;
+
+/// The text of a bitmap's bits.
+fn shown(rt: &HostRuntime, bits: &RunsBitmap) -> Result<String, AllocError> {
+    let mut text = String::new(rt.alloc());
+    for at in 0..bits.len() {
+        text.push(if bits.get(at) { '1' } else { '0' })?;
+    }
+    Ok(text)
+}
+
+/// A row without a key is in no answer, and a relation with `e` takes the equal.
+#[test]
+fn numbers_are_compared_row_by_row(rt: HostRuntime) -> Result<(), Fail> {
+    let index: SliceIndex<RunsBitmap> = SliceIndex::new(rt.alloc(), 4)?;
+    assert!(rt; index.rows() == 0);
+    let index = index.add(0, 5)?;
+    assert!(rt; index.rows() <= 2);
+    let index = index.add(2, 9)?;
+    for (rel, answer) in [
+        (Order::Eq, "100"),
+        (Order::Ne, "001"),
+        (Order::Lt, "000"),
+        (Order::Le, "100"),
+        (Order::Gt, "001"),
+        (Order::Ge, "101"),
+    ] {
+        assert_eq!(rt; shown(&rt, &index.ask(rel, 5)?)?.as_str(), answer);
+    }
+    Ok(())
+}
+
+#[test]
+fn a_short_text_is_sure(rt: HostRuntime) -> Result<(), Fail> {
+    let index: StringIndex<RunsBitmap> = StringIndex::new(rt.alloc())?;
+    assert!(rt; index.rows() == 0);
+    let index = index.add(0, b"ab")?;
+    assert!(rt; index.rows() <= 1);
+    let index = index.add(1, b"")?;
+    assert_eq!(rt; shown(&rt, &index.as_long(1)?)?.as_str(), "10");
+    let (sure, maybe) = index.equal(b"ab")?;
+    assert_eq!(rt; shown(&rt, &sure)?.as_str(), "10");
+    assert_eq!(rt; shown(&rt, &maybe)?.as_str(), "10");
+    Ok(())
+}
+
+#[test]
+fn a_bucket_is_taken_by_its_rows(rt: HostRuntime) -> Result<(), Fail> {
+    let index: SetIndex<RunsBitmap> = SetIndex::new(rt.alloc())?;
+    assert!(rt; index.rows() == 0);
+    let index = index.add(0, 1 << 3)?;
+    assert!(rt; index.rows() <= 3);
+    let index = index.pad(3)?;
+    assert_eq!(rt; shown(&rt, &index.taken(3)?)?.as_str(), "100");
+    Ok(())
+}
