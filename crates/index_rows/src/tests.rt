@@ -1,3 +1,4 @@
+use address_index::AddrIndex;
 use bits_law::{Bits, Order};
 use runs_bitmap::RunsBitmap;
 use set_index::SetIndex;
@@ -58,5 +59,25 @@ fn a_bucket_is_taken_by_its_rows(rt: HostRuntime) -> Result<(), Fail> {
     assert!(rt; index.rows() <= 3);
     let index = index.pad(3)?;
     assert_eq!(rt; shown(&rt, &index.taken(3)?)?.as_str(), "100");
+    Ok(())
+}
+
+#[test]
+fn an_address_lies_within_a_prefix(rt: HostRuntime) -> Result<(), Fail> {
+    let index: AddrIndex<RunsBitmap> = AddrIndex::new(rt.alloc())?;
+    assert!(rt; index.rows() == 0);
+    let index = index.add(0, 0x0a00_0001)?;
+    assert!(rt; index.rows() <= 2);
+    let index = index.add(2, 0x0a01_0001)?;
+    assert_eq!(rt; shown(&rt, &index.equal(0x0a00_0001)?)?.as_str(), "100");
+    assert_eq!(rt;
+        shown(&rt, &index.within(0x0a00_0000, 104)?)?.as_str(),
+        "101"
+    );
+    assert_eq!(rt;
+        shown(&rt, &index.within(0x0a01_0000, 112)?)?.as_str(),
+        "001"
+    );
+    assert_eq!(rt; shown(&rt, &index.within(0, 0)?)?.as_str(), "101");
     Ok(())
 }
