@@ -62,7 +62,7 @@ within_few keys table base bits answer l w h a =
     ∙ answers-same (λ key. eqb (key / 2 ^ (128 - bits) % 2 ^ bits) (base / 2 ^ (128 - bits))) (within base bits) keys (λ row key u q. ap (λ n. eqb n (base / 2 ^ (128 - bits))) (first_bits key bits l (h.each row key q)))
 
 -- two numbers are equal where their parts are
-same_parts : (a c p : ℕ) → (eqb (a / p) (c / p) && eqb (a % p) (c % p)) ≡ eqb a c
+pub same_parts : (a c p : ℕ) → (eqb (a / p) (c / p) && eqb (a % p) (c % p)) ≡ eqb a c
 same_parts a c p =
     let x = div-add-mod a p in
     let y = div-add-mod c p in

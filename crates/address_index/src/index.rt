@@ -9,8 +9,8 @@ use std::alloc::{AllocError, Global};
 
 /// The bits of an address.
 #[derive(Drop)]
-struct Address {
-    addr: u128,
+pub(crate) struct Address {
+    pub(crate) addr: u128,
 }
 
 impl RowBits for Address {
@@ -26,7 +26,7 @@ impl RowBits for Address {
 /// key.
 #[derive(Drop)]
 pub struct AddrIndex<B: Bits> {
-    table: Table<B>,
+    pub(crate) table: Table<B>,
     ghost wide: { length table.columns ≡ 128 },
 }
 
@@ -89,7 +89,8 @@ impl<B: Bits> AddrIndex<B> {
 
     /// The rows whose address is `addr`.
     pub fn equal(&self, addr: u128) -> Result<B, AllocError>
-        ensures { IfOk result (λ b. (keys : List (Option ℕ)) → Holds self.now.table keys → B.bits b ≡ answers (λ key. nat_eq key addr) keys) }
+        ensures rows { IfOk result (λ b. length (B.bits b) ≡ length self.now.table.present) }
+        ensures keys { IfOk result (λ b. (keys : List (Option ℕ)) → Holds self.now.table keys → B.bits b ≡ answers (λ key. nat_eq key addr) keys) }
     {
         self.within(addr, 128)
     }
@@ -98,7 +99,8 @@ impl<B: Bits> AddrIndex<B> {
     pub fn within(&self, base: u128, bits: u8) -> Result<B, AllocError>
         requires narrow { bits ≤ 128 }
         requires masked { base % 2 ^ (128 - bits) ≡ 0 }
-        ensures { IfOk result (λ b. (keys : List (Option ℕ)) → Holds self.now.table keys → B.bits b ≡ answers (within base bits) keys) }
+        ensures rows { IfOk result (λ b. length (B.bits b) ≡ length self.now.table.present) }
+        ensures keys { IfOk result (λ b. (keys : List (Option ℕ)) → Holds self.now.table keys → B.bits b ≡ answers (within base bits) keys) }
     {
         let table = &self.table;
         if bits == 0 {
@@ -116,7 +118,7 @@ impl<B: Bits> AddrIndex<B> {
 }
 
 /// The rows of `among` whose `count` columns from `from` on spell `key`.
-fn ask_part<B: Bits>(
+pub(crate) fn ask_part<B: Bits>(
     table: &Table<B>,
     among: &B,
     from: usize,

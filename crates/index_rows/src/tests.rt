@@ -1,4 +1,4 @@
-use address_index::AddrIndex;
+use address_index::{AddrIndex, NetIndex};
 use bits_law::{Bits, Order};
 use runs_bitmap::RunsBitmap;
 use set_index::SetIndex;
@@ -79,5 +79,21 @@ fn an_address_lies_within_a_prefix(rt: HostRuntime) -> Result<(), Fail> {
         "001"
     );
     assert_eq!(rt; shown(&rt, &index.within(0, 0)?)?.as_str(), "101");
+    Ok(())
+}
+
+#[test]
+fn subnets_lie_within_and_hold_each_other(rt: HostRuntime) -> Result<(), Fail> {
+    let index: NetIndex<RunsBitmap> = NetIndex::new(rt.alloc())?;
+    assert!(rt; index.rows() == 0);
+    let index = index.add(0, 0x0a00_0000, 104)?;
+    assert!(rt; index.rows() <= 1);
+    let index = index.add(1, 0x0a01_0000, 112)?;
+    let within = index.within(0x0a00_0000, 104)?;
+    assert_eq!(rt; shown(&rt, &within)?.as_str(), "11");
+    let covers = index.covers(0x0a02_0000, 112)?;
+    assert_eq!(rt; shown(&rt, &covers)?.as_str(), "10");
+    let equal = index.equal(0x0a01_0000, 112)?;
+    assert_eq!(rt; shown(&rt, &equal)?.as_str(), "01");
     Ok(())
 }
