@@ -1,15 +1,16 @@
 -- Digits in mixed bases, and what is asked of them.
-use Rattle.std.proofs.Common.{◌≡◌, ℕ, zero, suc, ◌+◌, ◌-◌, ◌*◌, ◌/◌, ◌%◌, ◌<◌, ◌≤◌, Bool, true, false, cond, eqb, ltb, leb, not, ◌&&◌, ◌||◌, List, [], ◌∷◌, ◌++◌, length, get_or, map, take, drop, Option, None, Some, Result, Ok, Err, IfOk, refl, ap, sym, ◌∙◌, subst, inl, inr, arith}
+use Rattle.std.proofs.Common.{◌≡◌, ℕ, zero, suc, ◌+◌, ◌-◌, ◌*◌, ◌/◌, ◌%◌, ◌<◌, ◌≤◌, Bool, true, false, cond, eqb, ltb, leb, not, ◌&&◌, ◌||◌, List, [], ◌∷◌, ◌++◌, length, get_or, map, take, drop, Option, Result, Ok, Err, IfOk, refl, ap, sym, ◌∙◌, subst, inl, inr, arith}
 use Rattle.std.proofs.Math.Nat.{div-one, mod-one, mod-eq_of_lt, mod-lt, div-div-eq-div-mul, mul_assoc, mul_comm, mul-le-mul_right}
 use Rattle.std.proofs.Math.Arith.{mod-mul}
 use Rattle.std.proofs.lemmas.Bool.Decides.{nat_tests}
-use Rattle.std.proofs.lemmas.Bool.{cases_eq, cases_lt}
-use Rattle.std.proofs.lemmas.List.{get_or-map, get_or-take, get_or-drop, length-take, length-drop, take_all}
+use Rattle.std.proofs.lemmas.Bool.{cases_lt}
+use Rattle.std.proofs.lemmas.List.{get_or-map, get_or-take, get_or-drop, take_all}
 use Rattle.bits_law.specs.Bitwise.{bitwise, and_not}
-use Rattle.bits_law.specs.Keys.{answers, with_gap, with_key, EachKey}
+use Rattle.bits_law.specs.Keys.{answers, with_gap, with_key}
 use Rattle.bits_law.specs.Numbers.{holds}
 use Rattle.bits_law.specs.Contents.{Contents, IsPlaced, IsPadded, IsJoined}
-use Rattle.bits_law.proofs.AnswerLemmas.{EachKey-gap, EachKey-key, EachKey-append, length-answers, answers-same, answers-and, answers-or, answers-and_not}
+use Rattle.bits_law.specs.declared.slices.Order.{Order}
+use Rattle.bits_law.proofs.AnswerLemmas.{EachKey-gap, EachKey-key, EachKey-append, answers-same, answers-and, answers-or, answers-and_not}
 use Rattle.bits_law.proofs.BitwiseLemmas.{length-bitwise}
 use Rattle.bits_law.proofs.TableLemmas.{stands-new, stands-placed, stands-padded, stands-joined}
 use Rattle.digit_index.specs.declared.coding.Coding.{Coding}
@@ -95,11 +96,11 @@ pub digit_is : (coding : Coding) (bases : List ℕ) (table : Contents) (keys : L
 digit_is coding bases table keys j a l h = record {
   rows = h.digits.present;
   column = λ value u.
-  let in_width = width-within coding bases j l in
-  get_or-take (columns_of coding (get_or bases j 0)) (drop (width coding (take j bases)) table.columns) value [] u
-  ∙ get_or-drop (width coding (take j bases)) table.columns value []
-  ∙ h.digits.column (width coding (take j bases) + value) (omega (arith, in_width, u))
-  ∙ answers-same (digit_bit coding bases (width coding (take j bases) + value)) (λ key. is_coded coding value (key / product (take j bases) % get_or bases j 0)) keys (λ row key i q. bit_of coding bases j value key l u);
+      let in_width = width-within coding bases j l in
+      get_or-take (columns_of coding (get_or bases j 0)) (drop (width coding (take j bases)) table.columns) value [] u
+      ∙ get_or-drop (width coding (take j bases)) table.columns value []
+      ∙ h.digits.column (width coding (take j bases) + value) (omega (arith, in_width, u))
+      ∙ answers-same (digit_bit coding bases (width coding (take j bases) + value)) (λ key. is_coded coding value (key / product (take j bases) % get_or bases j 0)) keys (λ row key i q. bit_of coding bases j value key l u);
   small = λ key. mod-lt (key / product (take j bases)) (omega (arith, a.least j l));
 }
 
@@ -361,3 +362,21 @@ from-most coding bases j a l =
         let count = columns-most coding b in
         let others = width-most coding bs (λ j l. h (suc j) (omega arith)) in
         omega (arith, first, count, others)
+
+-- what is asked, by the relation
+module _ {B E : Type 0} (bits : B → List Bool) (coding : Coding) (bases : List ℕ) (table : Contents) (rel : Order) (key : ℕ) where
+  pub ask_directly : (p : ℕ → Bool) (result : Result B E) → ((k : ℕ) → p k ≡ holds rel k key) → IfOk result (λ b. (keys : List (Option ℕ)) → Holds coding bases table keys → bits b ≡ answers p keys) → IfOk result (λ b. (keys : List (Option ℕ)) → Holds coding bases table keys → bits b ≡ answers (λ k. holds rel k key) keys)
+  ask_directly p (Ok b) same e = λ keys h. e keys h ∙ answers-same p (λ k. holds rel k key) keys (λ row k l q. same k)
+  ask_directly p (Err x) same e = tt
+
+  pub ask_others : (p : ℕ → Bool) (present rows : List Bool) (result : Result B E) → ((k : ℕ) → not (p k) ≡ holds rel k key) → present ≡ table.present → ((keys : List (Option ℕ)) → Holds coding bases table keys → rows ≡ answers p keys) → IfOk result (λ b. bits b ≡ bitwise and_not present rows) → IfOk result (λ b. (keys : List (Option ℕ)) → Holds coding bases table keys → bits b ≡ answers (λ k. holds rel k key) keys)
+  ask_others p present rows (Ok b) same t r e = λ keys h.
+      e ∙ ap (λ xs. bitwise and_not xs rows) (t ∙ h.digits.present) ∙ ap (λ xs. bitwise and_not (answers (λ _. true) keys) xs) (r keys h)
+      ∙ answers-and_not (λ _. true) p keys ∙ answers-same (λ k. not (p k)) (λ k. holds rel k key) keys (λ row k l q. same k)
+  ask_others p present rows (Err x) same t r e = tt
+
+pub above : (n key : ℕ) → not (leb n key) ≡ ltb key n
+above n key = grind (arith, nat_tests)
+
+pub at_least : (n key : ℕ) → not (ltb n key) ≡ leb key n
+at_least n key = grind (arith, nat_tests)

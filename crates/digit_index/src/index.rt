@@ -128,10 +128,10 @@ impl<B: Bits> DigitIndex<B> {
         match rel {
             Order::Eq => self.same(key),
             Order::Ne => present.and_not(&self.same(key)?),
-            Order::Lt => self.before(key, false),
-            Order::Le => self.before(key, true),
-            Order::Gt => present.and_not(&self.before(key, true)?),
-            Order::Ge => present.and_not(&self.before(key, false)?),
+            Order::Lt => self.preceding(key, false),
+            Order::Le => self.preceding(key, true),
+            Order::Gt => present.and_not(&self.preceding(key, true)?),
+            Order::Ge => present.and_not(&self.preceding(key, false)?),
         }
     }
 
@@ -171,7 +171,7 @@ impl<B: Bits> DigitIndex<B> {
     }
 
     /// The rows whose key is below `key`, or at most `key`.
-    fn before(&self, key: u64, or_equal: bool) -> Result<B, AllocError>
+    fn preceding(&self, key: u64, or_equal: bool) -> Result<B, AllocError>
         requires { key < product self.now.bases }
         ensures rows { IfOk result (λ b. length (B.bits b) ≡ length self.now.table.present) }
         ensures keys { IfOk result (λ b. (keys : List (Option ℕ)) → Holds self.now.coding self.now.bases self.now.table keys → B.bits b ≡ answers (λ k. if or_equal then nat_le k key else nat_lt k key) keys) }

@@ -1,4 +1,4 @@
-use Rattle.std.proofs.Common.{◌≡◌, ◌+◌, ℕ, suc, length, get_or, take, ap, sym, ◌∙◌, subst, arith}
+use Rattle.std.proofs.Common.{◌≡◌, ◌+◌, suc, get_or, take, ap, sym, ◌∙◌, subst, arith}
 use Rattle.digit_index.specs.Digits.{AreBases, width}
 use Rattle.digit_index.proofs.DigitLemmas.{width-more, columns-most}
 use Rattle.digit_index.proofs.coding.width.Goals as goal

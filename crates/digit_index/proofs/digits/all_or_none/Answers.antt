@@ -1,4 +1,3 @@
-use Rattle.std.proofs.Common.{refl, ap, ◌∙◌, Result, Ok, Err, IfOk, Bool, List, ◌≡◌, length, ℕ, Option, true, false}
 use Rattle.digit_index.proofs.DigitLemmas.{none_even, none_keys}
 use Rattle.digit_index.proofs.digits.all_or_none.Goals as goal
 

@@ -1,4 +1,4 @@
-use Rattle.std.proofs.Common.{◌<◌, ◌-◌, length, ap, ◌∙◌, sym, subst, arith}
+use Rattle.std.proofs.Common.{◌<◌, ◌-◌, length, ap, ◌∙◌, arith}
 use Rattle.digit_index.specs.Digits.{columns_of}
 use Rattle.digit_index.proofs.DigitLemmas.{slice_is, below_equality, below_none, below_all, below_some, even_of}
 use Rattle.digit_index.proofs.digits.below.Goals as goal

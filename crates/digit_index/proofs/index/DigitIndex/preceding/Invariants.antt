@@ -2,7 +2,7 @@ use Rattle.std.proofs.Common.{◌≡◌, ℕ, ◌/◌, ◌%◌, List, Option, le
 use Rattle.bits_law.specs.Keys.{answers}
 use Rattle.digit_index.specs.Digits.{product, width, Holds}
 use Rattle.digit_index.proofs.DigitLemmas.{is_before}
-use Rattle.digit_index.proofs.index.DigitIndex.before.Given as goal
+use Rattle.digit_index.proofs.index.DigitIndex.preceding.Given as goal
 
 -- the rows whose digits so far are before those of the key
 abbrev pub invariant-loop-j : goal.invariant-loop-j
