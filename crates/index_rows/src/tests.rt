@@ -1,9 +1,12 @@
+ghost use Rattle.std.specs.Prelude.{◌≡◌, ◌∷◌, [], IfOk};
+
 use address_index::{AddrIndex, NetIndex};
-use bits_law::{Bits, Order};
+use bits_law::{Bits, BitsEnd, Order};
+use digit_index::{Bases, Coding, DigitIndex};
 use runs_bitmap::RunsBitmap;
 use set_index::SetIndex;
 use slice_index::SliceIndex;
-use std::alloc::AllocError;
+use std::alloc::{AllocError, Global};
 use std::test::Fail;
 use string_index::StringIndex;
 
@@ -95,5 +98,117 @@ fn subnets_lie_within_and_hold_each_other(rt: HostRuntime) -> Result<(), Fail> {
     assert_eq!(rt; shown(&rt, &covers)?.as_str(), "10");
     let equal = index.equal(0x0a01_0000, 112)?;
     assert_eq!(rt; shown(&rt, &equal)?.as_str(), "01");
+    Ok(())
+}
+
+/// Two bases, both `base`.
+fn two_bases(alloc: Global, base: u16) -> Result<Bases, AllocError>
+    requires least { 2 ≤ base }
+    requires most { base ≤ 256 }
+    ensures { IfOk result (λ b. b ≡ base ∷ base ∷ []) }
+{
+    let mut bases = Bases::new(alloc);
+    bases.push(base)?;
+    bases.push(base)?;
+    Ok(bases)
+}
+
+#[test]
+fn digits_are_compared_row_by_row(rt: HostRuntime) -> Result<(), Fail> {
+    let bases = two_bases(rt.alloc(), 256)?;
+    let index: DigitIndex<RunsBitmap> = DigitIndex::new(rt.alloc(), bases, Coding::Range)?;
+    assert!(rt; index.rows() == 0);
+    let index = index.add(0, 53)?;
+    assert!(rt; index.rows() <= 1);
+    let index = index.add(1, 443)?;
+    assert!(rt; index.rows() <= 2);
+    let index = index.add(2, 53)?;
+    assert_eq!(rt; shown(&rt, &index.ask(Order::Eq, 53)?)?.as_str(), "101");
+    assert_eq!(rt; shown(&rt, &index.ask(Order::Gt, 53)?)?.as_str(), "010");
+    Ok(())
+}
+
+/// A slice index of four slices, with a row for each key.
+fn in_slices(alloc: Global, keys: &[u64]) -> Result<SliceIndex<RunsBitmap>, BitsEnd> {
+    let mut index = SliceIndex::new(alloc, 4)?;
+    for key in keys {
+        let row = index.rows();
+        index = index.add(row, *key % 16)?;
+    }
+    Ok(index)
+}
+
+/// A digit index of two bases of 4, with a row for each key.
+fn in_digits(
+    alloc: Global,
+    coding: Coding,
+    keys: &[u64],
+) -> Result<DigitIndex<RunsBitmap>, BitsEnd>
+    ensures { IfOk result (λ i. i.bases ≡ 4 ∷ 4 ∷ []) }
+{
+    let mut index = DigitIndex::new(alloc, two_bases(alloc, 4)?, coding)?;
+    for key in keys {
+        let row = index.rows();
+        index = index.add(row, *key % 16)?;
+    }
+    Ok(index)
+}
+
+/// Whether a number stands in a relation to a key.
+fn related(n: u64, rel: Order, key: u64) -> bool {
+    match rel {
+        Order::Eq => n == key,
+        Order::Ne => n != key,
+        Order::Lt => n < key,
+        Order::Le => n <= key,
+        Order::Gt => n > key,
+        Order::Ge => n >= key,
+    }
+}
+
+/// The answer of a relation, key by key.
+fn plain(rt: &HostRuntime, keys: &[u64], rel: Order, key: u64) -> Result<String, AllocError> {
+    let mut text = String::new(rt.alloc());
+    for n in keys {
+        text.push(if related(*n, rel, key) { '1' } else { '0' })?;
+    }
+    Ok(text)
+}
+
+const RELATIONS: [Order; 6] = [
+    Order::Eq,
+    Order::Ne,
+    Order::Lt,
+    Order::Le,
+    Order::Gt,
+    Order::Ge,
+];
+
+/// Small keys that a generator gave, with the least and the largest.
+const KEYS: [u64; 9] = [3, 14, 7, 7, 0, 15, 9, 12, 4];
+
+#[test]
+fn slices_answer_as_the_plain_relation(rt: HostRuntime) -> Result<(), Fail> {
+    let index = in_slices(rt.alloc(), &KEYS)?;
+    for rel in RELATIONS {
+        for key in 0..16 {
+            let answer = shown(&rt, &index.ask(rel, key)?)?;
+            assert_eq!(rt; answer.as_str(), plain(&rt, &KEYS, rel, key)?.as_str());
+        }
+    }
+    Ok(())
+}
+
+#[test]
+fn digits_answer_as_the_plain_relation(rt: HostRuntime) -> Result<(), Fail> {
+    for coding in [Coding::Equality, Coding::Range] {
+        let index = in_digits(rt.alloc(), coding, &KEYS)?;
+        for rel in RELATIONS {
+            for key in 0..16 {
+                let answer = shown(&rt, &index.ask(rel, key)?)?;
+                assert_eq!(rt; answer.as_str(), plain(&rt, &KEYS, rel, key)?.as_str());
+            }
+        }
+    }
     Ok(())
 }
