@@ -1,4 +1,4 @@
-ghost use Rattle.std.specs.Prelude.{◌≡◌, ◌∷◌, [], IfOk};
+ghost use Rattle.std.specs.Prelude.{◌≡◌, ◌≤◌, ◌∷◌, [], IfOk};
 
 use address_index::{AddrIndex, NetIndex};
 use bits_law::{Bits, BitsEnd, Order};
@@ -139,11 +139,7 @@ fn in_slices(alloc: Global, keys: &[u64]) -> Result<SliceIndex<RunsBitmap>, Bits
 }
 
 /// A digit index of two bases of 4, with a row for each key.
-fn in_digits(
-    alloc: Global,
-    coding: Coding,
-    keys: &[u64],
-) -> Result<DigitIndex<RunsBitmap>, BitsEnd>
+fn in_digits(alloc: Global, coding: Coding, keys: &[u64]) -> Result<DigitIndex<RunsBitmap>, BitsEnd>
     ensures { IfOk result (λ i. i.bases ≡ 4 ∷ 4 ∷ []) }
 {
     let mut index = DigitIndex::new(alloc, two_bases(alloc, 4)?, coding)?;
@@ -210,5 +206,79 @@ fn digits_answer_as_the_plain_relation(rt: HostRuntime) -> Result<(), Fail> {
             }
         }
     }
+    Ok(())
+}
+
+#[test]
+fn numbers_of_one_bit_and_of_64_are_compared(rt: HostRuntime) -> Result<(), Fail> {
+    let index: SliceIndex<RunsBitmap> = SliceIndex::new(rt.alloc(), 1)?;
+    assert!(rt; index.rows() == 0);
+    let index = index.add(0, 1)?;
+    assert_eq!(rt; shown(&rt, &index.ask(Order::Ge, 1)?)?.as_str(), "1");
+    let index: SliceIndex<RunsBitmap> = SliceIndex::new(rt.alloc(), 64)?;
+    assert!(rt; index.rows() == 0);
+    let index = index.add(0, 0)?;
+    assert!(rt; index.rows() <= 1);
+    let index = index.add(1, u64::MAX)?;
+    assert_eq!(rt; shown(&rt, &index.ask(Order::Gt, 0)?)?.as_str(), "01");
+    assert_eq!(rt;
+        shown(&rt, &index.ask(Order::Lt, u64::MAX)?)?.as_str(),
+        "10"
+    );
+    Ok(())
+}
+
+#[test]
+fn digits_of_base_2_are_bits(rt: HostRuntime) -> Result<(), Fail> {
+    let bases = two_bases(rt.alloc(), 2)?;
+    let index: DigitIndex<RunsBitmap> = DigitIndex::new(rt.alloc(), bases, Coding::Equality)?;
+    assert!(rt; index.rows() == 0);
+    let index = index.add(0, 3)?;
+    assert!(rt; index.rows() <= 2);
+    let index = index.add(2, 0)?;
+    assert_eq!(rt; shown(&rt, &index.ask(Order::Ne, 3)?)?.as_str(), "001");
+    assert_eq!(rt; shown(&rt, &index.ask(Order::Le, 2)?)?.as_str(), "001");
+    Ok(())
+}
+
+#[test]
+fn the_whole_and_one_address_are_subnets(rt: HostRuntime) -> Result<(), Fail> {
+    let index: NetIndex<RunsBitmap> = NetIndex::new(rt.alloc())?;
+    assert!(rt; index.rows() == 0);
+    let index = index.add(0, 0, 0)?;
+    assert!(rt; index.rows() <= 1);
+    let index = index.add(1, 5, 128)?;
+    assert_eq!(rt; shown(&rt, &index.within(0, 0)?)?.as_str(), "11");
+    assert_eq!(rt; shown(&rt, &index.covers(5, 128)?)?.as_str(), "11");
+    assert_eq!(rt; shown(&rt, &index.equal(5, 128)?)?.as_str(), "01");
+    Ok(())
+}
+
+/// A string index of texts of 8, 9, 255 and 256 bytes, all of the letter a.
+fn in_texts(alloc: Global) -> Result<StringIndex<RunsBitmap>, BitsEnd> {
+    let text = [b'a'; 256];
+    let mut index = StringIndex::new(alloc)?;
+    for length in [8usize, 9, 255, 256] {
+        let row = index.rows();
+        index = index.add(row, &text[..length])?;
+    }
+    Ok(index)
+}
+
+#[test]
+fn texts_of_eight_bytes_are_sure_and_longer_ones_maybe(rt: HostRuntime) -> Result<(), Fail> {
+    let index = in_texts(rt.alloc())?;
+    for (length, sure, maybe) in [
+        (8, "1000", "1000"),
+        (9, "0000", "0100"),
+        (255, "0000", "0011"),
+        (256, "0000", "0011"),
+    ] {
+        let text = [b'a'; 256];
+        let rows = index.equal(&text[..length])?;
+        assert_eq!(rt; shown(&rt, &rows.0)?.as_str(), sure);
+        assert_eq!(rt; shown(&rt, &rows.1)?.as_str(), maybe);
+    }
+    assert_eq!(rt; shown(&rt, &index.as_long(256)?)?.as_str(), "0011");
     Ok(())
 }
