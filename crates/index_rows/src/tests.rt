@@ -1,4 +1,4 @@
-ghost use Rattle.std.specs.Prelude.{◌≡◌, ◌≤◌, ◌∷◌, [], IfOk};
+ghost use Rattle.std.specs.Prelude.{◌≡◌, ◌≤◌, ◌∷◌, [], IfOk, replicate};
 
 use address_index::{AddrIndex, NetIndex};
 use bits_law::{Bits, BitsEnd, Order};
@@ -216,6 +216,33 @@ fn numbers_of_one_bit_and_of_64_are_compared(rt: HostRuntime) -> Result<(), Fail
     let index = index.add(0, 1)?;
     assert_eq!(rt; shown(&rt, &index.ask(Order::Ge, 1)?)?.as_str(), "1");
     let index: SliceIndex<RunsBitmap> = SliceIndex::new(rt.alloc(), 64)?;
+    assert!(rt; index.rows() == 0);
+    let index = index.add(0, 0)?;
+    assert!(rt; index.rows() <= 1);
+    let index = index.add(1, u64::MAX)?;
+    assert_eq!(rt; shown(&rt, &index.ask(Order::Gt, 0)?)?.as_str(), "01");
+    assert_eq!(rt;
+        shown(&rt, &index.ask(Order::Lt, u64::MAX)?)?.as_str(),
+        "10"
+    );
+    Ok(())
+}
+
+/// Sixteen bases of 16, whose product is 2^64.
+fn sixteen_bases(alloc: Global) -> Result<Bases, AllocError>
+    ensures { IfOk result (λ b. b ≡ replicate 16 16) }
+{
+    let mut bases = Bases::new(alloc);
+    for _ in 0..16usize {
+        bases.push(16)?;
+    }
+    Ok(bases)
+}
+
+#[test]
+fn sixteen_digits_reach_the_largest_key(rt: HostRuntime) -> Result<(), Fail> {
+    let bases = sixteen_bases(rt.alloc())?;
+    let index: DigitIndex<RunsBitmap> = DigitIndex::new(rt.alloc(), bases, Coding::Range)?;
     assert!(rt; index.rows() == 0);
     let index = index.add(0, 0)?;
     assert!(rt; index.rows() <= 1);
