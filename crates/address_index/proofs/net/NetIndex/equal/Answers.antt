@@ -1,0 +1,7 @@
+use Rattle.std.proofs.Common.{eqb}
+use Rattle.bits_law.specs.declared.slices.Order.TheVariants.{Eq}
+use Rattle.address_index.proofs.SubnetLemmas.{length_ok}
+use Rattle.address_index.proofs.net.NetIndex.equal.Goals as goal
+
+pub returns : goal.returns
+returns g c = length_ok g.B.Bits.bits c.args.self.now.addresses.table c.args.self.now.lengths (λ key. eqb key c.args.base) Eq c.args.bits _ c.ask_length.result c.in_ok-rows.ensures.keys c.ask_length.ensures

@@ -1,0 +1,136 @@
+ghost use Rattle.std.specs.Prelude.{◌≡◌, ◌+◌, ◌-◌, ◌^◌, ◌<◌, ◌≤◌, ◌++◌, ◌&&◌, List, [], length, IfOk, OnOk, IfErr, Option, ℕ, take, drop, ◌/◌, ◌%◌, nat_eq};
+ghost use Rattle.bits_law.specs.Keys.{answers, with_gap, with_key};
+ghost use Rattle.bits_law.specs.Numbers.{number_at, IsAnswer};
+ghost use Rattle.bits_law.specs.Refusal.{refusal, rows_to};
+ghost use Rattle.address_index.specs.Addresses.{address_bit, within, Holds};
+
+use bits_law::{Bits, BitsEnd, Order, RowBits, Table, slices_ask};
+use std::alloc::{AllocError, Global};
+
+/// The bits of an address.
+#[derive(Drop)]
+pub(crate) struct Address {
+    pub(crate) addr: u128,
+}
+
+impl RowBits for Address {
+    ghost bit = { λ k j. address_bit j k.addr };
+
+    fn bit(&self, column: usize) -> bool {
+        let at = 127usize.saturating_sub(column);
+        self.addr >> at & 1 == 1
+    }
+}
+
+/// An index of addresses. `Holds index.table keys` says that it stands for `keys`, a list with `None` at rows without a
+/// key.
+#[derive(Drop)]
+pub struct AddrIndex<B: Bits> {
+    pub(crate) table: Table<B>,
+    ghost wide: { length table.columns ≡ 128 },
+}
+
+impl<B: Bits> AddrIndex<B> {
+    /// An index with no rows.
+    pub fn new(alloc: Global) -> Result<Self, AllocError>
+        ensures { IfOk result (λ i. Holds i.table []) }
+    {
+        Ok(AddrIndex {
+            table: Table::new(alloc, 128)?,
+        })
+    }
+
+    /// How many rows there are.
+    pub fn rows(&self) -> u64
+        ensures value { result ≡ length self.now.table.present }
+        ensures keys { (keys : List (Option (ℕ))) → Holds self.now.table keys → result ≡ length keys }
+    {
+        self.table.rows()
+    }
+
+    /// Puts a key at `row`, the rows between having none. `TooLong` comes exactly where there would be more than 2^40
+    /// rows.
+    pub fn add(self, row: u64, addr: u128) -> Result<Self, BitsEnd>
+        requires after { length self.table.present ≤ row }
+        ensures keys { IfOk result (λ i. (keys : List (Option (ℕ))) → Holds self.table keys → Holds i.table (with_key keys row addr)) }
+        ensures fits { OnOk result (row < 2 ^ 40) }
+        ensures end { IfErr result (λ e. e ≡ refusal (length self.table.present) (rows_to (length self.table.present) row)) }
+    {
+        let AddrIndex { table } = self;
+        Ok(AddrIndex {
+            table: table.add(row, &Address { addr })?,
+        })
+    }
+
+    /// Adds rows without a key up to `rows`. `TooLong` comes exactly where there would be more than 2^40 rows.
+    pub fn pad(self, rows: u64) -> Result<Self, BitsEnd>
+        requires { length self.table.present ≤ rows }
+        ensures keys { IfOk result (λ i. (keys : List (Option (ℕ))) → Holds self.table keys → Holds i.table (with_gap keys rows)) }
+        ensures fits { OnOk result (rows ≤ 2 ^ 40) }
+        ensures end { IfErr result (λ e. e ≡ refusal (length self.table.present) (rows - length self.table.present)) }
+    {
+        let AddrIndex { table } = self;
+        Ok(AddrIndex {
+            table: table.pad(rows)?,
+        })
+    }
+
+    /// Adds the rows of another index. `TooLong` comes exactly where there would be more than 2^40 rows.
+    pub fn append(self, other: &Self) -> Result<Self, BitsEnd>
+        ensures keys { IfOk result (λ i. (keys more : List (Option (ℕ))) → Holds self.table keys → Holds other.now.table more → Holds i.table (keys ++ more)) }
+        ensures fits { OnOk result (length self.table.present + length other.now.table.present ≤ 2 ^ 40) }
+        ensures end { IfErr result (λ e. e ≡ refusal (length self.table.present) (length other.now.table.present)) }
+    {
+        let AddrIndex { table } = self;
+        Ok(AddrIndex {
+            table: table.append(&other.table)?,
+        })
+    }
+
+    /// The rows whose address is `addr`.
+    pub fn equal(&self, addr: u128) -> Result<B, AllocError>
+        ensures rows { IfOk result (λ b. length (B.bits b) ≡ length self.now.table.present) }
+        ensures keys { IfOk result (λ b. (keys : List (Option ℕ)) → Holds self.now.table keys → B.bits b ≡ answers (λ key. nat_eq key addr) keys) }
+    {
+        self.within(addr, 128)
+    }
+
+    /// The rows whose address has the first `bits` bits of `base`.
+    pub fn within(&self, base: u128, bits: u8) -> Result<B, AllocError>
+        requires narrow { bits ≤ 128 }
+        requires masked { base % 2 ^ (128 - bits) ≡ 0 }
+        ensures rows { IfOk result (λ b. length (B.bits b) ≡ length self.now.table.present) }
+        ensures keys { IfOk result (λ b. (keys : List (Option ℕ)) → Holds self.now.table keys → B.bits b ≡ answers (within base bits) keys) }
+    {
+        let table = &self.table;
+        if bits == 0 {
+            return table.present().duplicate();
+        }
+        let rest = 128 - bits;
+        let part = base >> rest;
+        if bits <= 64 {
+            return ask_part(table, table.present(), 0, bits as usize, part as u64);
+        }
+        let high = ask_part(table, table.present(), 0, 64, (base >> 64) as u64)?;
+        let low = part % (1u128 << (bits - 64));
+        ask_part(table, &high, 64, bits as usize - 64, low as u64)
+    }
+}
+
+/// The rows of `among` whose `count` columns from `from` on spell `key`.
+pub(crate) fn ask_part<B: Bits>(
+    table: &Table<B>,
+    among: &B,
+    from: usize,
+    count: usize,
+    key: u64,
+) -> Result<B, AllocError>
+    requires some { 0 < count }
+    requires few { count ≤ 64 }
+    requires within { from + count ≤ length table.now.columns }
+    requires even { length (B.bits among.now) ≡ length table.now.present }
+    ensures { IfOk result (λ b. IsAnswer (B.bits b) (B.bits among.now) (λ row. nat_eq (number_at (take count (drop from table.now.columns)) row) key)) }
+{
+    let slices = &table.columns()[from..from + count];
+    slices_ask(table.alloc(), slices, among, Order::Eq, key)
+}

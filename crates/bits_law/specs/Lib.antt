@@ -1,0 +1,5 @@
+pub mod Bitwise
+pub mod Refusal
+pub mod Keys
+pub mod Numbers
+pub mod Contents

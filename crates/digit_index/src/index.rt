@@ -1,0 +1,194 @@
+ghost use Rattle.std.specs.Prelude.{◌≡◌, ◌+◌, ◌-◌, ◌^◌, ◌<◌, ◌≤◌, ◌++◌, List, [], length, IfOk, OnOk, IfErr, Option, ℕ, nat_eq, nat_lt, nat_le, if◌then◌else◌, take, drop, map, get_or, slice_index};
+ghost use Rattle.bits_law.specs.Keys.{answers, with_gap, with_key};
+ghost use Rattle.bits_law.specs.Numbers.{holds};
+ghost use Rattle.bits_law.specs.Refusal.{refusal, rows_to};
+ghost use Rattle.digit_index.specs.Digits.{product, columns_of, width, Holds};
+
+use crate::bases::Bases;
+use crate::coding::{Coding, DigitKey, columns_of, width};
+use crate::digits::{all_or_none, equal, ordered};
+use bits_law::{Bits, BitsEnd, Order, Table};
+use std::alloc::{AllocError, Global};
+
+/// An index of numbers below the product of its bases. `Holds index.coding index.bases index.table keys` says that it
+/// stands for `keys`, a list with `None` at rows without a key.
+#[derive(Drop)]
+pub struct DigitIndex<B: Bits> {
+    coding: Coding,
+    bases: Bases,
+    table: Table<B>,
+    ghost wide: { length table.columns ≡ width coding bases },
+}
+
+impl<B: Bits> DigitIndex<B> {
+    /// An index with no rows, of keys with one digit for each base.
+    pub fn new(alloc: Global, bases: Bases, coding: Coding) -> Result<Self, AllocError>
+        requires { 1 ≤ length bases }
+        ensures coding { IfOk result (λ i. i.coding ≡ coding) }
+        ensures bases { IfOk result (λ i. i.bases ≡ bases) }
+        ensures keys { IfOk result (λ i. Holds i.coding i.bases i.table []) }
+    {
+        let table = Table::new(alloc, width(coding, &bases))?;
+        Ok(DigitIndex {
+            coding,
+            bases,
+            table,
+        })
+    }
+
+    /// How many rows there are.
+    pub fn rows(&self) -> u64
+        ensures value { result ≡ length self.now.table.present }
+        ensures keys { (keys : List (Option ℕ)) → Holds self.now.coding self.now.bases self.now.table keys → result ≡ length keys }
+    {
+        self.table.rows()
+    }
+
+    /// Puts a key at `row`, the rows between having none. `TooLong` comes exactly where there would be more than 2^40
+    /// rows.
+    pub fn add(self, row: u64, key: u64) -> Result<Self, BitsEnd>
+        requires after { length self.table.present ≤ row }
+        requires small { key < product self.bases }
+        ensures coding { IfOk result (λ i. i.coding ≡ self.coding) }
+        ensures bases { IfOk result (λ i. i.bases ≡ self.bases) }
+        ensures keys { IfOk result (λ i. (keys : List (Option ℕ)) → Holds self.coding self.bases self.table keys → Holds i.coding i.bases i.table (with_key keys row key)) }
+        ensures fits { OnOk result (row < 2 ^ 40) }
+        ensures end { IfErr result (λ e. e ≡ refusal (length self.table.present) (rows_to (length self.table.present) row)) }
+    {
+        let DigitIndex {
+            coding,
+            bases,
+            table,
+        } = self;
+        let key = DigitKey {
+            key,
+            coding,
+            bases: &bases,
+        };
+        let table = table.add(row, &key)?;
+        Ok(DigitIndex {
+            coding,
+            bases,
+            table,
+        })
+    }
+
+    /// Adds rows without a key up to `rows`. `TooLong` comes exactly where there would be more than 2^40 rows.
+    pub fn pad(self, rows: u64) -> Result<Self, BitsEnd>
+        requires { length self.table.present ≤ rows }
+        ensures coding { IfOk result (λ i. i.coding ≡ self.coding) }
+        ensures bases { IfOk result (λ i. i.bases ≡ self.bases) }
+        ensures keys { IfOk result (λ i. (keys : List (Option ℕ)) → Holds self.coding self.bases self.table keys → Holds i.coding i.bases i.table (with_gap keys rows)) }
+        ensures fits { OnOk result (rows ≤ 2 ^ 40) }
+        ensures end { IfErr result (λ e. e ≡ refusal (length self.table.present) (rows - length self.table.present)) }
+    {
+        let DigitIndex {
+            coding,
+            bases,
+            table,
+        } = self;
+        let table = table.pad(rows)?;
+        Ok(DigitIndex {
+            coding,
+            bases,
+            table,
+        })
+    }
+
+    /// Adds the rows of another index of the same bases and coding. `TooLong` comes exactly where there would be more
+    /// than 2^40 rows.
+    pub fn append(self, other: &Self) -> Result<Self, BitsEnd>
+        requires coding { other.now.coding ≡ self.coding }
+        requires bases { other.now.bases ≡ self.bases }
+        ensures coding { IfOk result (λ i. i.coding ≡ self.coding) }
+        ensures bases { IfOk result (λ i. i.bases ≡ self.bases) }
+        ensures keys { IfOk result (λ i. (keys more : List (Option ℕ)) → Holds self.coding self.bases self.table keys → Holds self.coding self.bases other.now.table more → Holds i.coding i.bases i.table (keys ++ more)) }
+        ensures fits { OnOk result (length self.table.present + length other.now.table.present ≤ 2 ^ 40) }
+        ensures end { IfErr result (λ e. e ≡ refusal (length self.table.present) (length other.now.table.present)) }
+    {
+        let DigitIndex {
+            coding,
+            bases,
+            table,
+        } = self;
+        let table = table.append(&other.table)?;
+        Ok(DigitIndex {
+            coding,
+            bases,
+            table,
+        })
+    }
+
+    /// The rows whose key stands in the relation `rel` to `key`.
+    pub fn ask(&self, rel: Order, key: u64) -> Result<B, AllocError>
+        requires { key < product self.now.bases }
+        ensures { IfOk result (λ b. (keys : List (Option ℕ)) → Holds self.now.coding self.now.bases self.now.table keys → B.bits b ≡ answers (λ k. holds rel k key) keys) }
+    {
+        let present = self.table.present();
+        match rel {
+            Order::Eq => self.same(key),
+            Order::Ne => present.and_not(&self.same(key)?),
+            Order::Lt => self.preceding(key, false),
+            Order::Le => self.preceding(key, true),
+            Order::Gt => present.and_not(&self.preceding(key, true)?),
+            Order::Ge => present.and_not(&self.preceding(key, false)?),
+        }
+    }
+
+    /// The bitmaps of digit `j`, which begin at column `from`.
+    fn digit_columns(&self, j: usize, from: usize) -> &[B]
+        requires inside { j < length self.now.bases }
+        requires from { from ≡ width self.now.coding (take j self.now.bases) }
+        ensures value { map B.bits result.now ≡ take (columns_of self.now.coding (slice_index self.now.bases j)) (drop from self.now.table.columns) }
+        ensures wide { length result.now ≡ columns_of self.now.coding (slice_index self.now.bases j) }
+        ensures even { (i : ℕ) → i < length result.now → length (get_or (map B.bits result.now) i []) ≡ length self.now.table.present }
+    {
+        let end = from + columns_of(self.coding, self.bases.as_slice()[j]);
+        &self.table.columns()[from..end]
+    }
+
+    /// The rows whose key is `key`.
+    fn same(&self, key: u64) -> Result<B, AllocError>
+        requires { key < product self.now.bases }
+        ensures rows { IfOk result (λ b. length (B.bits b) ≡ length self.now.table.present) }
+        ensures keys { IfOk result (λ b. (keys : List (Option ℕ)) → Holds self.now.coding self.now.bases self.now.table keys → B.bits b ≡ answers (λ k. nat_eq k key) keys) }
+    {
+        let present = self.table.present();
+        let bases = self.bases.as_slice();
+        let mut rows = all_or_none(present, true)?;
+        let mut rest = key;
+        let mut from = 0;
+        for j in 0..bases.len() {
+            let base = bases[j];
+            let value = (rest % base as u64) as usize;
+            let columns = self.digit_columns(j, from);
+            let here = equal(columns, present, self.coding, base, value)?;
+            rows = rows.and(&here)?;
+            rest /= base as u64;
+            from += columns_of(self.coding, base);
+        }
+        Ok(rows)
+    }
+
+    /// The rows whose key is below `key`, or at most `key`.
+    fn preceding(&self, key: u64, or_equal: bool) -> Result<B, AllocError>
+        requires { key < product self.now.bases }
+        ensures rows { IfOk result (λ b. length (B.bits b) ≡ length self.now.table.present) }
+        ensures keys { IfOk result (λ b. (keys : List (Option ℕ)) → Holds self.now.coding self.now.bases self.now.table keys → B.bits b ≡ answers (λ k. if or_equal then nat_le k key else nat_lt k key) keys) }
+    {
+        let present = self.table.present();
+        let bases = self.bases.as_slice();
+        let mut rows = all_or_none(present, or_equal)?;
+        let mut rest = key;
+        let mut from = 0;
+        for j in 0..bases.len() {
+            let base = bases[j];
+            let value = (rest % base as u64) as usize;
+            let columns = self.digit_columns(j, from);
+            rows = ordered(columns, present, self.coding, base, value, &rows)?;
+            rest /= base as u64;
+            from += columns_of(self.coding, base);
+        }
+        Ok(rows)
+    }
+}

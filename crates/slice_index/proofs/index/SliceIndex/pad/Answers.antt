@@ -1,0 +1,5 @@
+use Rattle.slice_index.proofs.SliceLemmas.{holds_gap}
+use Rattle.slice_index.proofs.index.SliceIndex.pad.Goals as goal
+
+pub returns-clause-keys : goal.returns-clause-keys
+returns-clause-keys g c = λ keys h. holds_gap c.args.self.width keys c.args.self.table _ c.args.rows h c.in_ok-pad.ensures.ok

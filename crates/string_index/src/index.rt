@@ -1,0 +1,171 @@
+ghost use Rattle.std.specs.Prelude.{◌≡◌, ◌+◌, ◌-◌, ◌^◌, ◌<◌, ◌≤◌, ◌++◌, ◌&&◌, List, [], length, IfOk, OnOk, IfErr, Option, ℕ, true, nat_le, slice_index, take, drop, min, if◌then◌else◌};
+ghost use Rattle.bits_law.specs.Bitwise.{bitwise, and_not};
+ghost use Rattle.bits_law.specs.Keys.{answers, with_gap, with_key};
+ghost use Rattle.bits_law.specs.Numbers.{holds, number_at, IsAnswer};
+ghost use Rattle.bits_law.specs.Refusal.{refusal, rows_to};
+ghost use Rattle.string_index.specs.Texts.{text_bit, short_length, same_start, Holds};
+
+use bits_law::{Bits, BitsEnd, Order, RowBits, Table, slices_ask};
+use std::alloc::{AllocError, Global};
+
+/// The bits that a text sets.
+#[derive(Drop)]
+struct TextKey<'a> {
+    text: &'a [u8],
+}
+
+impl<'a> RowBits for TextKey<'a> {
+    ghost bit = { λ k j. text_bit j k.text.now };
+
+    fn bit(&self, column: usize) -> bool {
+        if column < 8 {
+            short_length(self.text) >> (7 - column) & 1 == 1
+        } else {
+            byte(self.text, column / 8 - 1) >> (7 - column % 8) & 1 == 1
+        }
+    }
+}
+
+/// A text's length, up to 255.
+fn short_length(text: &[u8]) -> u8
+    ensures { result ≡ short_length text.now }
+{
+    text.len().min(255) as u8
+}
+
+/// A text's byte, and 0 past its end.
+fn byte(text: &[u8], at: usize) -> u8
+    ensures { result ≡ slice_index text.now at }
+{
+    text.get(at).copied().unwrap_or(0)
+}
+
+/// An index of texts. `Holds index.table keys` says that it stands for `keys`, a list with `None` at rows without a
+/// key.
+#[derive(Drop)]
+pub struct StringIndex<B: Bits> {
+    table: Table<B>,
+    ghost wide: { length table.columns ≡ 72 },
+}
+
+impl<B: Bits> StringIndex<B> {
+    /// An index with no rows.
+    pub fn new(alloc: Global) -> Result<Self, AllocError>
+        ensures { IfOk result (λ i. Holds i.table []) }
+    {
+        Ok(StringIndex {
+            table: Table::new(alloc, 72)?,
+        })
+    }
+
+    /// How many rows there are.
+    pub fn rows(&self) -> u64
+        ensures value { result ≡ length self.now.table.present }
+        ensures keys { (keys : List (Option (List ℕ))) → Holds self.now.table keys → result ≡ length keys }
+    {
+        self.table.rows()
+    }
+
+    /// Puts a key at `row`, the rows between having none. `TooLong` comes exactly where there would be more than 2^40
+    /// rows.
+    pub fn add(self, row: u64, text: &[u8]) -> Result<Self, BitsEnd>
+        requires after { length self.table.present ≤ row }
+        ensures keys { IfOk result (λ i. (keys : List (Option (List ℕ))) → Holds self.table keys → Holds i.table (with_key keys row text.now)) }
+        ensures fits { OnOk result (row < 2 ^ 40) }
+        ensures end { IfErr result (λ e. e ≡ refusal (length self.table.present) (rows_to (length self.table.present) row)) }
+    {
+        let StringIndex { table } = self;
+        Ok(StringIndex {
+            table: table.add(row, &TextKey { text })?,
+        })
+    }
+
+    /// Adds rows without a key up to `rows`. `TooLong` comes exactly where there would be more than 2^40 rows.
+    pub fn pad(self, rows: u64) -> Result<Self, BitsEnd>
+        requires { length self.table.present ≤ rows }
+        ensures keys { IfOk result (λ i. (keys : List (Option (List ℕ))) → Holds self.table keys → Holds i.table (with_gap keys rows)) }
+        ensures fits { OnOk result (rows ≤ 2 ^ 40) }
+        ensures end { IfErr result (λ e. e ≡ refusal (length self.table.present) (rows - length self.table.present)) }
+    {
+        let StringIndex { table } = self;
+        Ok(StringIndex {
+            table: table.pad(rows)?,
+        })
+    }
+
+    /// Adds the rows of another index. `TooLong` comes exactly where there would be more than 2^40 rows.
+    pub fn append(self, other: &Self) -> Result<Self, BitsEnd>
+        ensures keys { IfOk result (λ i. (keys more : List (Option (List ℕ))) → Holds self.table keys → Holds other.now.table more → Holds i.table (keys ++ more)) }
+        ensures fits { OnOk result (length self.table.present + length other.now.table.present ≤ 2 ^ 40) }
+        ensures end { IfErr result (λ e. e ≡ refusal (length self.table.present) (length other.now.table.present)) }
+    {
+        let StringIndex { table } = self;
+        Ok(StringIndex {
+            table: table.append(&other.table)?,
+        })
+    }
+
+    /// The rows whose text has the length and the first eight bytes of `text`: those where equality is sure, which
+    /// needs at most eight bytes, and those where it may be.
+    pub fn equal(&self, text: &[u8]) -> Result<(B, B), AllocError>
+        ensures sure { IfOk result (λ r. (keys : List (Option (List ℕ))) → Holds self.now.table keys → B.bits r.0 ≡ answers (λ key. same_start key text.now && nat_le (length text.now) 8) keys) }
+        ensures maybe { IfOk result (λ r. (keys : List (Option (List ℕ))) → Holds self.now.table keys → B.bits r.1 ≡ answers (λ key. same_start key text.now) keys) }
+    {
+        let maybe = self.same_start(text)?;
+        let sure = when(&maybe, text.len() <= 8)?;
+        Ok((sure, maybe))
+    }
+
+    /// The rows whose text has at least `n` bytes, as far as lengths up to 255 tell.
+    pub fn as_long(&self, n: u64) -> Result<B, AllocError>
+        ensures { IfOk result (λ b. (keys : List (Option (List ℕ))) → Holds self.now.table keys → B.bits b ≡ answers (λ key. nat_le (min n 255) (short_length key)) keys) }
+    {
+        ask_byte(
+            &self.table,
+            self.table.present(),
+            0,
+            Order::Ge,
+            n.min(255) as u8,
+        )
+    }
+
+    /// The rows whose text has the length, up to 255, and the first eight bytes of `text`.
+    fn same_start(&self, text: &[u8]) -> Result<B, AllocError>
+        ensures keys { IfOk result (λ b. (keys : List (Option (List ℕ))) → Holds self.now.table keys → B.bits b ≡ answers (λ key. same_start key text.now) keys) }
+    {
+        let table = &self.table;
+        let length = short_length(text);
+        let mut rows = ask_byte(table, table.present(), 0, Order::Eq, length)?;
+        for at in 0..8 {
+            rows = ask_byte(table, &rows, 8 + 8 * at, Order::Eq, byte(text, at))?;
+        }
+        Ok(rows)
+    }
+}
+
+/// The rows if `holds`, and none if not.
+fn when<B: Bits>(rows: &B, holds: bool) -> Result<B, AllocError>
+    ensures { IfOk result (λ b. B.bits b ≡ (if holds then B.bits rows.now else bitwise and_not (B.bits rows.now) (B.bits rows.now))) }
+{
+    if holds {
+        rows.duplicate()
+    } else {
+        rows.and_not(rows)
+    }
+}
+
+/// The rows of `among` whose byte, in the eight columns from `from` on, stands in a relation to a key.
+fn ask_byte<B: Bits>(
+    table: &Table<B>,
+    among: &B,
+    from: usize,
+    rel: Order,
+    key: u8,
+) -> Result<B, AllocError>
+    requires within { from + 8 ≤ length table.now.columns }
+    requires even { length (B.bits among.now) ≡ length table.now.present }
+    ensures { IfOk result (λ b. IsAnswer (B.bits b) (B.bits among.now) (λ row. holds rel (number_at (take 8 (drop from table.now.columns)) row) key)) }
+{
+    let slices = &table.columns()[from..from + 8];
+    slices_ask(table.alloc(), slices, among, rel, key as u64)
+}
