@@ -309,3 +309,62 @@ fn texts_of_eight_bytes_are_sure_and_longer_ones_maybe(rt: HostRuntime) -> Resul
     assert_eq!(rt; shown(&rt, &index.as_long(256)?)?.as_str(), "0011");
     Ok(())
 }
+
+#[test]
+fn numbers_join_behind_a_gap(rt: HostRuntime) -> Result<(), Fail> {
+    let gap: SliceIndex<RunsBitmap> = SliceIndex::new(rt.alloc(), 4)?;
+    assert!(rt; gap.rows() <= 1);
+    let index: SliceIndex<RunsBitmap> = SliceIndex::new(rt.alloc(), 4)?;
+    assert!(rt; index.rows() == 0);
+    let index = gap.pad(1)?.append(&index.add(0, 5)?)?;
+    assert_eq!(rt; shown(&rt, &index.ask(Order::Eq, 5)?)?.as_str(), "01");
+    let gap: DigitIndex<RunsBitmap> = DigitIndex::new(
+        rt.alloc(),
+        two_bases(rt.alloc(), 4)?,
+        Coding::Range,
+    )?;
+    assert!(rt; gap.rows() <= 1);
+    let index: DigitIndex<RunsBitmap> = DigitIndex::new(
+        rt.alloc(),
+        two_bases(rt.alloc(), 4)?,
+        Coding::Range,
+    )?;
+    assert!(rt; index.rows() == 0);
+    let index = gap.pad(1)?.append(&index.add(0, 5)?)?;
+    assert_eq!(rt; shown(&rt, &index.ask(Order::Eq, 5)?)?.as_str(), "01");
+    Ok(())
+}
+
+#[test]
+fn texts_and_buckets_join_behind_a_gap(rt: HostRuntime) -> Result<(), Fail> {
+    let gap: StringIndex<RunsBitmap> = StringIndex::new(rt.alloc())?;
+    assert!(rt; gap.rows() <= 1);
+    let index: StringIndex<RunsBitmap> = StringIndex::new(rt.alloc())?;
+    assert!(rt; index.rows() == 0);
+    let index = gap.pad(1)?.append(&index.add(0, b"ab")?)?;
+    assert_eq!(rt; shown(&rt, &index.as_long(1)?)?.as_str(), "01");
+    let gap: SetIndex<RunsBitmap> = SetIndex::new(rt.alloc())?;
+    assert!(rt; gap.rows() <= 1);
+    let index: SetIndex<RunsBitmap> = SetIndex::new(rt.alloc())?;
+    assert!(rt; index.rows() == 0);
+    let index = gap.pad(1)?.append(&index.add(0, 8)?)?;
+    assert_eq!(rt; shown(&rt, &index.taken(3)?)?.as_str(), "01");
+    Ok(())
+}
+
+#[test]
+fn addresses_and_subnets_join_behind_a_gap(rt: HostRuntime) -> Result<(), Fail> {
+    let gap: AddrIndex<RunsBitmap> = AddrIndex::new(rt.alloc())?;
+    assert!(rt; gap.rows() <= 1);
+    let index: AddrIndex<RunsBitmap> = AddrIndex::new(rt.alloc())?;
+    assert!(rt; index.rows() == 0);
+    let index = gap.pad(1)?.append(&index.add(0, 7)?)?;
+    assert_eq!(rt; shown(&rt, &index.equal(7)?)?.as_str(), "01");
+    let gap: NetIndex<RunsBitmap> = NetIndex::new(rt.alloc())?;
+    assert!(rt; gap.rows() <= 1);
+    let index: NetIndex<RunsBitmap> = NetIndex::new(rt.alloc())?;
+    assert!(rt; index.rows() == 0);
+    let index = gap.pad(1)?.append(&index.add(0, 0, 0)?)?;
+    assert_eq!(rt; shown(&rt, &index.covers(7, 128)?)?.as_str(), "01");
+    Ok(())
+}

@@ -1,13 +1,14 @@
 //! Measures parts of the program, for the scripts of bench/. It is no part of the product.
 #![tactic(auto)]
 
+mod bitmaps;
 mod packets;
 mod turns;
 
 use std::env;
 use std::process::ExitCode;
 
-const USAGE: &str = "measure turns THREADS TURNS, measure decode PACKETS";
+const USAGE: &str = "measure turns THREADS TURNS, decode PACKETS, bitmaps BITS ONE_IN";
 
 fn main(rt: HostRuntime) -> anyhow::Result<ExitCode> {
     let mut words = env::args(&rt)?;
@@ -30,6 +31,18 @@ fn main(rt: HostRuntime) -> anyhow::Result<ExitCode> {
             let with_ports = packets::decode_all(packets);
             println!(rt; "ports {with_ports}")?;
             return Ok(ExitCode::SUCCESS);
+        }
+    }
+    if what == Some("bitmaps") {
+        let bits = words.next().and_then(|word| word.parse().ok());
+        let one_in = words.next().and_then(|word| word.parse().ok());
+        if let (Some(bits), Some(one_in)) = (bits, one_in) {
+            if let Some(spent) = bitmaps::measure(&rt, rt.alloc(), bits, one_in)? {
+                println!(rt; "append {}", spent.append.as_nanos())?;
+                println!(rt; "and {}", spent.and.as_nanos())?;
+                println!(rt; "ones {}", spent.ones)?;
+                return Ok(ExitCode::SUCCESS);
+            }
         }
     }
     println!(rt; "usage: {USAGE}")?;
