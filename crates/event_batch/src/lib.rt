@@ -1,0 +1,13 @@
+//! Batches of events and their bytes.
+//!
+//! A [`Batch`] is a source's rows of one layout, and a [`Packed`] the bytes that spell one. Contracts see a `Packed` as
+//! the source, the heading and the rows that its bytes spell.
+#![tactic(auto)]
+
+mod batch;
+mod rows;
+mod steps;
+
+pub use batch::Batch;
+pub use rows::Rows;
+pub use steps::Steps;
