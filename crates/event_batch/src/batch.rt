@@ -6,7 +6,7 @@ use crate::rows::Rows;
 use vast_value::{fits, Layout, Row};
 
 /// The most rows of a batch.
-const MOST_ROWS: usize = 4096;
+pub(crate) const MOST_ROWS: usize = 4096;
 
 /// 1 to 4,096 rows of one source and one layout, which they all fit.
 #[derive(Debug, Drop)]

@@ -5,9 +5,15 @@
 #![tactic(auto)]
 
 mod batch;
+mod law;
+mod reading;
 mod rows;
+mod size;
 mod steps;
+mod unread;
+mod writing;
 
 pub use batch::Batch;
+pub use law::one_spelling;
 pub use rows::Rows;
 pub use steps::Steps;
