@@ -86,7 +86,7 @@ is_heading_of l =
     let names = names_short l.columns in
     rw (fault, path, names) refl
 
-rows_fit_fields : (cs : List Column) (rows : List (List Cell)) → list_all (fits_fields (map field_of cs)) rows ≡ list_all (fits_columns cs) rows
+pub rows_fit_fields : (cs : List Column) (rows : List (List Cell)) → list_all (fits_fields (map field_of cs)) rows ≡ list_all (fits_columns cs) rows
 rows_fit_fields cs [] = refl
 rows_fit_fields cs (x ∷ xs) = rw (fits_fields-map cs x, rows_fit_fields cs xs) refl
 

@@ -71,7 +71,7 @@ net_is n true true p q ha hb = ap (λ (m : Net). Some m) (net_equal _ _ refl ref
 net_is n true false p q ha hb = absurd cc
 net_is n false b p q ha hb = absurd cc
 
-net_of_itself : (n : Net) → net_of n.base n.bits ≡ Some n
+pub net_of_itself : (n : Net) → net_of n.base n.bits ≡ Some n
 unfolding net_of
 net_of_itself n = net_is n _ _ refl refl (le-leb n.bits 128 n.narrow) (eq-eqb _ 0 n.masked)
 

@@ -1,3 +1,6 @@
 pub mod ContentLemmas
 pub mod FieldLemmas
+pub mod LoopLemmas
+pub mod PackingLemmas
+pub mod PlaceLemmas
 pub mod ReadingLemmas

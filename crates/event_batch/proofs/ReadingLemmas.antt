@@ -139,10 +139,10 @@ content_again c h =
     let source = number_again 4 c.source (heading_bytes c.heading ++ rows) (omega arith) in
     rw (source, heading_again c.heading rows b.0, rows_again c.heading.fields c.rows d.0 d.1) refl
 
-abbrev maybe : {A : Type 0} → A → Option A
+abbrev pub maybe : {A : Type 0} → A → Option A
 maybe x = Some x
 
-some_is : {A : Type 0} (x y : A) → maybe x ≡ maybe y → x ≡ y
+pub some_is : {A : Type 0} (x y : A) → maybe x ≡ maybe y → x ≡ y
 some_is x y e = cc
 
 -- two batches with the same bytes say the same

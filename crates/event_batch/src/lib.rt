@@ -6,6 +6,8 @@
 
 mod batch;
 mod law;
+mod packed;
+mod place;
 mod reading;
 mod rows;
 mod size;
@@ -15,5 +17,6 @@ mod writing;
 
 pub use batch::Batch;
 pub use law::one_spelling;
+pub use packed::{encode, unpack, Packed};
 pub use rows::Rows;
 pub use steps::Steps;

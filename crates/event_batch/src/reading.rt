@@ -4,6 +4,7 @@ ghost use Rattle.vast_value.specs.Headings.{field_of, heading_of};
 ghost use Rattle.vast_value.specs.Kinds.{is_lone_unset};
 ghost use Rattle.event_batch.specs.Answers.{Gives};
 ghost use Rattle.event_batch.specs.Contents.{content_of};
+ghost use Rattle.event_batch.specs.Packings.{IsSpelled, content_in};
 ghost use Rattle.event_batch.specs.Nets.{net_of};
 ghost use Rattle.event_batch.specs.Reading.{byte_at, number_at, signed_at, text_at, bool_at, net_at, value_at, element_at, many_at, container_at, set_cell_at, cell_at, row_at, elem_of_code, kind_of_code, field_at, heading_at, rows_at, content_at};
 
@@ -12,7 +13,7 @@ use crate::rows::Rows;
 use crate::writing::FORMAT;
 use crate::unread::Unread;
 use byteorder::{ByteOrder, LittleEndian};
-use std::alloc::Global;
+use std::alloc::{AllocError, Global};
 use vast_value::{Bytes, Cell, Cells, Column, Columns, Elem, Kind, Layout, Net, Row, Value};
 
 /// The most bytes of a text and the most elements of a container.
@@ -269,6 +270,7 @@ fn row_at<'a>(alloc: Global, columns: &[Column], bytes: &'a [u8]) -> Result<(Row
     Ok((row, rest))
 }
 
+#[tactic(auto, unfolding(crate::specs::Reading::elem_of_code))]
 fn elem_of_code(code: u8) -> Option<Elem>
     ensures { result ≡ elem_of_code code }
 {
@@ -390,12 +392,16 @@ fn parts_at(alloc: Global, bytes: &[u8]) -> Result<(u32, Layout, Rows), Unread>
 }
 
 /// The batch that the bytes spell.
-pub(crate) fn read(alloc: Global, bytes: &[u8]) -> Result<Batch, Unread>
-    ensures { Gives content_of result (content_at bytes.now) }
+pub(crate) fn read(alloc: Global, bytes: &[u8]) -> Result<Batch, AllocError>
+    requires { IsSpelled bytes.now }
+    ensures { IfOk result (λ batch. content_of batch ≡ content_in bytes.now) }
 {
-    let (source, layout, rows) = parts_at(alloc, bytes)?;
-    match Batch::new(source, layout, rows) {
-        None => Err(Unread::NotABatch),
-        Some(batch) => Ok(batch),
+    match parts_at(alloc, bytes) {
+        Err(Unread::Memory) => Err(AllocError),
+        Err(Unread::NotABatch) => unreachable!(),
+        Ok((source, layout, rows)) => match Batch::new(source, layout, rows) {
+            None => unreachable!(),
+            Some(batch) => Ok(batch),
+        },
     }
 }
