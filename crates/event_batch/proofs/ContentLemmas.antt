@@ -1,23 +1,22 @@
 -- What a batch keeps, as facts on its content.
-use Rattle.std.proofs.Common.{◌≡◌, ℕ, ◌+◌, ◌-◌, ◌<◌, ◌≤◌, ◌^◌, Bool, true, false, cond, ◌&&◌, ltb, leb, not, List, [], ◌∷◌, ◌++◌, length, map, Option, None, Some, refl, ap, sym, ◌∙◌, arith, IsTrue}
-use Rattle.std.specs.Prelude.{is_none, is_some}
+use Rattle.std.proofs.Common.{◌≡◌, ℕ, ◌+◌, ◌-◌, ◌≤◌, ◌^◌, Bool, true, false, cond, ◌&&◌, ltb, List, [], ◌∷◌, ◌++◌, length, map, Option, None, Some, refl, ◌∙◌, arith}
+use Rattle.std.specs.Prelude.{is_none}
 use Rattle.std.specs.List.{list_all, list_any}
 use Rattle.std.specs.Option.{option_or}
 use Rattle.std.specs.Str.{bytes_eq}
-use Rattle.std.proofs.lemmas.Bool.{leb-true, le-leb, lt-ltb, ltb-false, ltb-true}
+use Rattle.std.proofs.lemmas.Bool.{le-leb, lt-ltb, ltb-false}
 use Rattle.std.proofs.lemmas.List.{length-map}
 use Rattle.vast_value.specs.declared.cell.Cell.{Cell}
 use Rattle.vast_value.specs.declared.column.Column.{Column}
 use Rattle.vast_value.specs.declared.layout.Layout.{Layout}
-use Rattle.vast_value.specs.declared.layout.BadLayout.{BadLayout}
 use Rattle.vast_value.specs.declared.layout.BadLayout.TheVariants.{EmptyPath, NoColumns, TooManyColumns, EmptyName, SameName}
 use Rattle.vast_value.specs.Fit.{is_small, fits_columns}
 use Rattle.vast_value.specs.Layouts.{is_empty, layout_fault}
 use Rattle.vast_value.specs.Headings.{Field, Heading, field_of, heading_of, field_fault, fields_fault, heading_fault, fits_fields}
 use Rattle.vast_value.proofs.HeadingLemmas.{fits_fields-map, heading_fault-map}
 use Rattle.event_batch.specs.declared.batch.Batch.{Batch}
-use Rattle.event_batch.specs.Contents.{Content, content_of, is_heading, is_short_field, is_content}
-use Rattle.event_batch.specs.Sizes.{is_batch_size, rows_fit}
+use Rattle.event_batch.specs.Contents.{content_of, is_heading, is_short_field, is_content}
+use Rattle.event_batch.specs.Sizes.{is_batch_size}
 
 pub both : (a b : Bool) → (a && b) ≡ true → (a ≡ true) × (b ≡ true)
 both true b h = (refl, h)

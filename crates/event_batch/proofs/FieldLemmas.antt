@@ -1,13 +1,13 @@
 -- Numbers, texts and values that were spelled are read again.
-use Rattle.std.proofs.Common.{◌≡◌, ℕ, ℤ, pos, negsuc, zero, suc, ◌+◌, ◌-◌, ◌%◌, ◌<◌, ◌≤◌, ◌^◌, Bool, true, false, cond, ◌&&◌, ◌||◌, ltb, leb, eqb, List, [], ◌∷◌, ◌++◌, length, take, drop, Option, None, Some, refl, ap, sym, ◌∙◌, append_assoc, arith}
+use Rattle.std.proofs.Common.{◌≡◌, ℕ, ℤ, pos, negsuc, suc, ◌-◌, ◌%◌, ◌<◌, ◌≤◌, ◌^◌, Bool, true, false, ◌&&◌, ltb, leb, eqb, List, [], ◌∷◌, ◌++◌, length, Option, None, Some, refl, ap, sym, ◌∙◌, append_assoc, arith}
 use Rattle.std.specs.Int.{w64, cast_signed, cast_unsigned}
 use Rattle.std.specs.List.{list_all, flat_map}
-use Rattle.std.proofs.lemmas.Bool.{leb-true, le-leb, lt-ltb, le-ltb, ltb-true, eq-eqb}
+use Rattle.std.proofs.lemmas.Bool.{leb-true, le-leb, le-ltb, ltb-true, eq-eqb}
 use Rattle.std.proofs.lemmas.List.{length-append, take_at, drop_at}
 use Rattle.std.proofs.lemmas.Int.{to_z-of_z, ints}
 use Rattle.std.proofs.Math.Facts.{Fits-of_z, Fits-lt-pow}
 use Rattle.std.specs.Int.RustNames.{FitsSigned}
-use Rattle.byteorder.specs.Endian.{little_number, little_bytes}
+use Rattle.byteorder.specs.Endian.{little_number}
 use Rattle.byteorder.specs.Numbers.{little_number-reads_back, length-bytes_low_first}
 use Rattle.vast_value.specs.declared.kind.Elem.{Elem}
 use Rattle.vast_value.specs.declared.kind.Elem.TheVariants as elem
@@ -19,7 +19,7 @@ use Rattle.vast_value.specs.Kinds.{elem_of, elem_eq, is_element}
 use Rattle.vast_value.proofs.NetLemmas.{net_equal}
 use Rattle.event_batch.specs.Spelling.{number, text, value_bytes, element_bytes}
 use Rattle.event_batch.specs.Nets.{net_of, net_by}
-use Rattle.event_batch.specs.Reading.{◌>>=◌, byte_at, number_at, signed_at, text_at, bool_at, net_at, reads_as, value_at, element_at, many_at}
+use Rattle.event_batch.specs.Reading.{byte_at, number_at, signed_at, text_at, bool_at, net_at, value_at, element_at, many_at}
 use Rattle.event_batch.proofs.ContentLemmas.{both}
 
 length_number : (n x : ℕ) → length (number n x) ≡ n

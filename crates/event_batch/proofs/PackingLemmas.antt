@@ -1,18 +1,17 @@
 -- A spelling says what was spelled.
-use Rattle.std.proofs.Common.{◌≡◌, ℕ, Bool, true, false, ◌&&◌, cond, List, [], map, length, Option, None, Some, refl, ap, sym, ◌∙◌, subst, arith, ltb, ◌^◌}
-use Rattle.std.specs.Prelude.{is_some, unwrap_or}
+use Rattle.std.proofs.Common.{◌≡◌, ℕ, true, ◌&&◌, List, map, length, None, Some, refl, ap, sym, ◌∙◌, subst, ltb, ◌^◌}
 use Rattle.std.specs.List.{list_all}
 use Rattle.vast_value.specs.declared.column.Column.{Column}
 use Rattle.vast_value.specs.declared.cell.Cell.{Cell}
 use Rattle.vast_value.specs.declared.layout.Layout.{Layout}
 use Rattle.vast_value.specs.declared.layout.BadLayout.{BadLayout}
 use Rattle.vast_value.specs.Layouts.{layout_fault}
-use Rattle.vast_value.specs.Headings.{Heading, Field, field_of, heading_of, heading_fault, fits_fields}
+use Rattle.vast_value.specs.Headings.{Heading, field_of, heading_of, heading_fault, fits_fields}
 use Rattle.vast_value.proofs.HeadingLemmas.{heading_fault-map}
 use Rattle.event_batch.specs.Contents.{Content, is_content, is_heading}
 use Rattle.event_batch.specs.Sizes.{is_batch_size, rows_fit}
 use Rattle.event_batch.specs.Spelling.{spelling}
-use Rattle.event_batch.specs.Reading.{◌>>=◌, text_at, number_at, many_at, field_at, checked, heading_at, content_at}
+use Rattle.event_batch.specs.Reading.{text_at, number_at, many_at, field_at, checked, heading_at, content_at}
 use Rattle.event_batch.specs.Packings.{content_in, IsSpelled}
 use Rattle.event_batch.proofs.ContentLemmas.{both, rows_fit_fields}
 use Rattle.event_batch.proofs.ReadingLemmas.{content_again, some_is}

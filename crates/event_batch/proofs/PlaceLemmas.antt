@@ -1,16 +1,15 @@
 -- In a spelling the source and the number of rows lie where they are looked for.
-use Rattle.std.proofs.Common.{◌≡◌, ℕ, zero, suc, ◌-◌, ◌+◌, ◌<◌, ◌≤◌, ◌^◌, Bool, true, false, ◌&&◌, ltb, leb, List, [], ◌∷◌, ◌++◌, length, drop, Option, None, Some, refl, sym, ap, ◌∙◌, append_assoc, arith, subst}
+use Rattle.std.proofs.Common.{◌≡◌, ℕ, suc, ◌-◌, ◌+◌, ◌<◌, ◌≤◌, ◌^◌, true, false, ◌&&◌, ltb, leb, List, [], ◌∷◌, ◌++◌, length, Option, None, Some, refl, sym, ap, ◌∙◌, append_assoc, arith}
 use Rattle.std.specs.Prelude.{is_none}
-use Rattle.std.specs.Option.{option_map}
 use Rattle.std.specs.List.{list_all, flat_map}
 use Rattle.std.proofs.lemmas.Bool.{leb-true, le-ltb, ltb-true}
 use Rattle.std.proofs.lemmas.List.{length-append, drop_at}
-use Rattle.vast_value.specs.Headings.{Field, Heading, heading_fault, fits_fields}
+use Rattle.vast_value.specs.Headings.{Field, heading_fault, fits_fields}
 use Rattle.event_batch.specs.Contents.{Content, is_heading, is_short_field, is_content}
 use Rattle.event_batch.specs.Sizes.{is_batch_size}
-use Rattle.event_batch.specs.Spelling.{number, text, kind_code, field_bytes, row_bytes, heading_bytes, spelling}
+use Rattle.event_batch.specs.Spelling.{number, text, field_bytes, row_bytes, heading_bytes, spelling}
 use Rattle.event_batch.specs.Packings.{content_in, IsSpelled}
-use Rattle.event_batch.specs.Reading.{◌>>=◌, byte_at, number_at}
+use Rattle.event_batch.specs.Reading.{byte_at}
 use Rattle.event_batch.specs.Places.{behind_text, behind_field, behind_fields, source_at, row_count_at}
 use Rattle.event_batch.proofs.ContentLemmas.{both, few, none_is}
 use Rattle.event_batch.proofs.ReadingLemmas.{some_is}

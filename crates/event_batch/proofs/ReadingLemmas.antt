@@ -1,7 +1,7 @@
 -- Cells, rows, headings and batches that were spelled are read again.
-use Rattle.std.proofs.Common.{◌≡◌, ℕ, zero, suc, ◌+◌, ◌-◌, ◌<◌, ◌≤◌, ◌^◌, Bool, true, false, cond, ◌&&◌, ltb, leb, not, List, [], ◌∷◌, ◌++◌, length, Option, None, Some, refl, ap, sym, ◌∙◌, append_assoc, arith}
+use Rattle.std.proofs.Common.{◌≡◌, ℕ, ◌^◌, Bool, true, false, ◌&&◌, ltb, leb, not, List, [], ◌∷◌, ◌++◌, length, Option, Some, refl, ap, sym, ◌∙◌, append_assoc, arith}
 use Rattle.std.specs.List.{list_all, flat_map}
-use Rattle.std.proofs.lemmas.Bool.{leb-true, le-leb, lt-ltb, le-ltb, ltb-true}
+use Rattle.std.proofs.lemmas.Bool.{leb-true, le-ltb, ltb-true}
 use Rattle.std.proofs.lemmas.List.{append-nil}
 use Rattle.std.specs.Prelude.{is_none}
 use Rattle.vast_value.specs.declared.kind.Elem.{Elem}
@@ -11,13 +11,13 @@ use Rattle.vast_value.specs.declared.kind.Kind.TheVariants as kind
 use Rattle.vast_value.specs.declared.value.Value.{Value}
 use Rattle.vast_value.specs.declared.cell.Cell.{Cell}
 use Rattle.vast_value.specs.declared.cell.Cell.TheVariants as cell
-use Rattle.vast_value.specs.Fit.{is_small, is_bounded, is_bounded_element}
+use Rattle.vast_value.specs.Fit.{is_small, is_bounded_element}
 use Rattle.vast_value.specs.Headings.{Field, Heading, fits_field, fits_fields, heading_fault}
-use Rattle.vast_value.specs.Kinds.{elem_of, elem_eq, has_kind, is_element, are_elements, is_lone_unset}
+use Rattle.vast_value.specs.Kinds.{has_kind, is_element, are_elements, is_lone_unset}
 use Rattle.event_batch.specs.Contents.{Content, is_heading, is_short_field, is_content}
 use Rattle.event_batch.specs.Sizes.{is_batch_size}
-use Rattle.event_batch.specs.Spelling.{number, text, elem_code, kind_code, value_bytes, element_bytes, cell_bytes, row_bytes, field_bytes, heading_bytes, spelling}
-use Rattle.event_batch.specs.Reading.{◌>>=◌, byte_at, number_at, text_at, value_at, element_at, many_at, container_at, set_cell_at, cell_at, row_at, elem_of_code, kind_of_code, field_at, checked, heading_at, rows_at, content_at}
+use Rattle.event_batch.specs.Spelling.{number, text, kind_code, element_bytes, cell_bytes, row_bytes, field_bytes, heading_bytes, spelling}
+use Rattle.event_batch.specs.Reading.{byte_at, element_at, many_at, container_at, set_cell_at, cell_at, row_at, elem_of_code, kind_of_code, field_at, heading_at, rows_at, content_at}
 use Rattle.event_batch.proofs.ContentLemmas.{both, few, none_is}
 use Rattle.event_batch.proofs.FieldLemmas.{number_again, text_again, value_again, fits_element, element_again, many_again}
 

@@ -1,5 +1,5 @@
 -- The subnet of a base and bits.
-use Rattle.std.specs.Prelude.{◌≡◌, ℕ, ◌-◌, ◌%◌, ◌^◌, ◌==◌, Bool, true, false, Option, None, Some, nat_le, refl}
+use Rattle.std.specs.Prelude.{◌≡◌, ℕ, ◌-◌, ◌%◌, ◌^◌, ◌==◌, Bool, true, Option, None, Some, nat_le, refl}
 use Rattle.std.proofs.lemmas.Bool.{leb-true, eqb-true}
 use Rattle.vast_value.specs.declared.net.Net.{Net}
 

@@ -1,6 +1,6 @@
 -- Reading a spelling from left to right: a value and the bytes behind it, or nothing. That what is read is what was
 -- spelled is proved of these words; no clause of a public call names one.
-use Rattle.std.specs.Prelude.{◌≡◌, ℕ, ℤ, zero, suc, ◌-◌, ◌%◌, ◌^◌, ◌≤◌, Bool, true, false, ◌==◌, ◌||◌, if◌then◌else◌, List, [], ◌∷◌, length, take, drop, Option, None, Some, is_some, nat_lt, nat_le, refl, slice_get, option_map}
+use Rattle.std.specs.Prelude.{ℕ, ℤ, zero, suc, ◌-◌, ◌^◌, Bool, true, false, ◌==◌, ◌||◌, if◌then◌else◌, List, [], ◌∷◌, length, take, drop, Option, None, Some, is_some, nat_lt, slice_get, option_map}
 use Rattle.std.specs.Int.{w64, cast_signed}
 use Rattle.byteorder.specs.Endian.{little_number}
 use Rattle.vast_value.specs.declared.kind.Elem.{Elem}

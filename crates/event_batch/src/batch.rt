@@ -3,7 +3,7 @@ ghost use Rattle.std.specs.Prelude.{◌≡◌, ◌↔◌, ◌<◌, ◌^◌, ◌&
 ghost use Rattle.event_batch.specs.Sizes.{is_batch_size, rows_fit};
 
 use crate::rows::Rows;
-use vast_value::{fits, Layout, Row};
+use vast_value::{Layout, Row, fits};
 
 /// The most rows of a batch.
 pub(crate) const MOST_ROWS: usize = 4096;

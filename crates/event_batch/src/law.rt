@@ -8,5 +8,4 @@ ghost use Rattle.event_batch.specs.Spelling.{spelling};
 /// source, heading and rows.
 pub fn one_spelling()
     ensures { (a b : Batch) → spelling (content_of a) ≡ spelling (content_of b) → content_of a ≡ content_of b }
-{
-}
+{}

@@ -12,11 +12,13 @@ mod reading;
 mod rows;
 mod size;
 mod steps;
+#[cfg(test)]
+mod tests;
 mod unread;
 mod writing;
 
 pub use batch::Batch;
 pub use law::one_spelling;
-pub use packed::{encode, unpack, Packed};
+pub use packed::{Packed, encode, unpack};
 pub use rows::Rows;
 pub use steps::Steps;

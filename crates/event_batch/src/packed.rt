@@ -10,8 +10,8 @@ use crate::steps::Steps;
 use crate::writing::spell;
 use std::alloc::{AllocError, Global};
 use std::marker::Model;
-use std::sync::ledger::Ledger;
 use std::sync::Arc;
+use std::sync::ledger::Ledger;
 
 /// The bytes of one batch, in a block that may be shared.
 ///
@@ -42,7 +42,11 @@ pub fn encode(alloc: Global, batch: &Batch) -> Result<Packed, AllocError>
 }
 
 /// The batch whose bytes these are. It counts one step, also where there is no memory for the batch.
-pub fn unpack<L: Ledger>(alloc: Global, packed: &Packed, steps: &mut Steps<L>) -> Result<Batch, AllocError>
+pub fn unpack<L: Ledger>(
+    alloc: Global,
+    packed: &Packed,
+    steps: &mut Steps<L>,
+) -> Result<Batch, AllocError>
     ensures batch { IfOk result (λ batch. content_of batch ≡ packed.now) }
     ensures step { steps.new ≡ steps.old + 1 }
 {

@@ -10,8 +10,8 @@ ghost use Rattle.event_batch.specs.Reading.{byte_at, number_at, signed_at, text_
 
 use crate::batch::{Batch, MOST_ROWS};
 use crate::rows::Rows;
-use crate::writing::FORMAT;
 use crate::unread::Unread;
+use crate::writing::FORMAT;
 use byteorder::{ByteOrder, LittleEndian};
 use std::alloc::{AllocError, Global};
 use vast_value::{Bytes, Cell, Cells, Column, Columns, Elem, Kind, Layout, Net, Row, Value};
@@ -197,7 +197,12 @@ fn element_at(alloc: Global, elem: Elem, bytes: &[u8]) -> Result<(Option<Value>,
     }
 }
 
-fn elements_at(alloc: Global, elem: Elem, count: u32, bytes: &[u8]) -> Result<(Cells, &[u8]), Unread>
+fn elements_at(
+    alloc: Global,
+    elem: Elem,
+    count: u32,
+    bytes: &[u8],
+) -> Result<(Cells, &[u8]), Unread>
     ensures { Gives (λ x. (x.0, x.1.now)) result (many_at (element_at elem) count bytes.now) }
 {
     let mut items = Cells::new(alloc);
@@ -349,7 +354,12 @@ fn layout_at(alloc: Global, bytes: &[u8]) -> Result<(Layout, &[u8]), Unread>
     }
 }
 
-fn many_rows_at<'a>(alloc: Global, columns: &[Column], count: u32, bytes: &'a [u8]) -> Result<(Rows, &'a [u8]), Unread>
+fn many_rows_at<'a>(
+    alloc: Global,
+    columns: &[Column],
+    count: u32,
+    bytes: &'a [u8],
+) -> Result<(Rows, &'a [u8]), Unread>
     ensures { Gives (λ x. (x.0, x.1.now)) result (many_at (row_at (map field_of columns.now)) count bytes.now) }
 {
     let mut rows = Rows::with_capacity(alloc, count as usize)?;

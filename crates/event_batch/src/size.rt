@@ -5,14 +5,20 @@ use crate::batch::Batch;
 use vast_value::{Cell, Column, Row, Value};
 
 pub(crate) fn batch_size(batch: &Batch) -> usize {
-    let heading = columns_size(batch.layout().columns()).saturating_add(batch.layout().path().len());
-    rows_size(batch.rows()).saturating_add(heading).saturating_add(15)
+    let heading = columns_size(batch.layout().columns()).saturating_add(
+        batch.layout().path().len(),
+    );
+    rows_size(batch.rows())
+        .saturating_add(heading)
+        .saturating_add(15)
 }
 
 fn columns_size(columns: &[Column]) -> usize {
     let mut size: usize = 0;
     for column in columns {
-        size = size.saturating_add(column.name.as_slice().len()).saturating_add(5);
+        size = size
+            .saturating_add(column.name.as_slice().len())
+            .saturating_add(5);
     }
     size
 }

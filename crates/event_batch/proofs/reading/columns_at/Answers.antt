@@ -12,7 +12,7 @@ returns-in_err-column c =
     rw (p.1, p.2) (ends field_at c.in_err-column.field-0.0 (map field_of c.loop.columns) c.args.count c.loop.counter c.loop.rest.now (many_at field_at c.args.count c.args.bytes.now) c.loop-test.true c.in_err-column.ensures c.loop.invariant)
 
 pub loop-preserved : goal.loop-preserved
-loop-preserved c = 
+loop-preserved c =
     let e : map field_of c.push.new.self ≡ map field_of c.loop.columns ++ field_of c.in_ok-column.column ∷ [] = rw c.in_ok-push.ensures.ok (map_push _ c.loop.columns c.in_ok-column.column) in
     rw e (goes_on field_at (map field_of c.loop.columns) c.args.count c.loop.counter c.loop.rest.now (field_of c.in_ok-column.column) c.in_ok-column.after.now (many_at field_at c.args.count c.args.bytes.now) c.loop-test.true c.in_ok-column.ensures c.loop.invariant)
 

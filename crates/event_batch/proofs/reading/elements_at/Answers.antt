@@ -1,6 +1,4 @@
-use Rattle.std.proofs.Common.{◌≡◌, ◌++◌, ◌∷◌, [], map}
 use Rattle.std.proofs.lemmas.Result.{err_from_is_err_and}
-use Rattle.std.proofs.lemmas.List.{map_push}
 use Rattle.event_batch.specs.Reading.{element_at, many_at}
 use Rattle.event_batch.proofs.LoopLemmas.{goes_on, ends, is_done}
 use Rattle.event_batch.proofs.reading.elements_at.Goals as goal

@@ -1,4 +1,4 @@
-use Rattle.std.proofs.Common.{◌≡◌, ◌-◌, map}
+use Rattle.std.proofs.Common.{◌≡◌, ◌-◌}
 use Rattle.event_batch.specs.Reading.{element_at, many_at}
 use Rattle.event_batch.proofs.LoopLemmas.{with_front}
 use Rattle.event_batch.proofs.reading.elements_at.Given as goal

@@ -1,6 +1,5 @@
-use Rattle.std.proofs.Common.{◌≡◌, ◌++◌, ◌∷◌, [], map}
+use Rattle.std.proofs.Common.{map}
 use Rattle.std.proofs.lemmas.Result.{err_from_is_err_and}
-use Rattle.std.proofs.lemmas.List.{map_push}
 use Rattle.vast_value.specs.Headings.{field_of}
 use Rattle.event_batch.specs.Reading.{row_at, many_at}
 use Rattle.event_batch.proofs.LoopLemmas.{goes_on, ends, is_done}

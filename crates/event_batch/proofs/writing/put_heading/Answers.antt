@@ -1,5 +1,4 @@
-use Rattle.std.proofs.Common.{rules, arith}
-use Rattle.std.proofs.lemmas.Grind.{common_steps}
+use Rattle.std.proofs.Common.{arith}
 use Rattle.event_batch.proofs.ContentLemmas.{few_columns}
 use Rattle.event_batch.proofs.writing.put_heading.Goals as goal
 
