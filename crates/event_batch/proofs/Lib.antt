@@ -1,3 +1,4 @@
+pub mod BatchLemmas
 pub mod ContentLemmas
 pub mod FieldLemmas
 pub mod LoopLemmas
