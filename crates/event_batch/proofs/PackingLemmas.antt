@@ -49,18 +49,18 @@ is_spelled bytes c e h =
     let same : content_in bytes ≡ c = says bytes c e h in
     record { spelled = rw same e; content = rw same h; read = rw same (ap content_at e ∙ content_again c h) }
 
-fitting : (source : ℕ) (l : Layout) (rows : List (List Cell)) → is_content (record { source = source; heading = heading_of l; rows = rows }) ≡ true → (is_batch_size (length rows) && rows_fit l rows) ≡ true
+fitting : (source : ℕ) (l : Layout) (rows : List (List Cell)) → is_content (record { source = source; heading = heading_of l; rows = rows }) ≡ true → (is_batch_size (length rows) ≡ true) × (rows_fit l rows ≡ true)
 fitting source l rows h =
     let fit = is_batch_size (length rows) && list_all (fits_fields (map field_of l.columns)) rows in
     let a = both (ltb source (2 ^ 32)) (is_heading (heading_of l) && fit) h in
     let b = both (is_heading (heading_of l)) fit a.1 in
     let d = both (is_batch_size (length rows)) (list_all (fits_fields (map field_of l.columns)) rows) b.1 in
     let rows_are : rows_fit l rows ≡ true = sym (rows_fit_fields l.columns rows) ∙ d.1 in
-    rw (d.0, rows_are) refl
+    (d.0, rows_are)
 
 -- what was read of such bytes is a batch
 pub rows_read : (bytes : List ℕ) (source : ℕ) (l : Layout) (rows : List (List Cell)) → IsSpelled bytes → content_at bytes ≡ Some (record { source = source; heading = heading_of l; rows = rows })
-    → (is_batch_size (length rows) && rows_fit l rows) ≡ true
+    → (is_batch_size (length rows) ≡ true) × (rows_fit l rows ≡ true)
 rows_read bytes source l rows spelled read =
     let c : Content = record { source = source; heading = heading_of l; rows = rows } in
     let same : content_in bytes ≡ c = some_is (content_in bytes) c (sym spelled.read ∙ read) in

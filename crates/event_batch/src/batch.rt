@@ -38,6 +38,21 @@ impl Batch {
         })
     }
 
+    /// The batch of rows that are known to fit, which nothing tests again.
+    pub(crate) fn of_fitting(source: u32, layout: Layout, rows: Rows) -> Batch
+        requires sized { IsTrue (is_batch_size (length rows)) }
+        requires fitting { IsTrue (rows_fit layout rows) }
+        ensures source { result.source ≡ source }
+        ensures layout { result.layout ≡ layout }
+        ensures rows { result.rows ≡ rows }
+    {
+        Batch {
+            source,
+            layout,
+            rows,
+        }
+    }
+
     /// The number of the source that the rows came from.
     pub fn source(&self) -> u32
         ensures { result ≡ self.now.source }

@@ -9,5 +9,4 @@ ghost use Rattle.event_batch.specs.Spelling.{spelling};
 pub fn one_spelling()
     ensures bytes { (a b : Batch) → spelling (content_of a) ≡ spelling (content_of b) → a ≡ b }
     ensures content { (a b : Batch) → content_of a ≡ content_of b → a ≡ b }
-{
-}
+{}

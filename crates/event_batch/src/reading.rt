@@ -401,7 +401,7 @@ fn parts_at(alloc: Global, bytes: &[u8]) -> Result<(u32, Layout, Rows), Unread>
     Ok((source, layout, rows))
 }
 
-/// The batch that the bytes spell.
+/// The batch that the bytes spell. What was read is known to be a batch, so its rows are not tested against the layout.
 pub(crate) fn read(alloc: Global, bytes: &[u8]) -> Result<Batch, AllocError>
     requires { IsSpelled bytes.now }
     ensures { IfOk result (λ batch. content_of batch ≡ content_in bytes.now) }
@@ -409,9 +409,6 @@ pub(crate) fn read(alloc: Global, bytes: &[u8]) -> Result<Batch, AllocError>
     match parts_at(alloc, bytes) {
         Err(Unread::Memory) => Err(AllocError),
         Err(Unread::NotABatch) => unreachable!(),
-        Ok((source, layout, rows)) => match Batch::new(source, layout, rows) {
-            None => unreachable!(),
-            Some(batch) => Ok(batch),
-        },
+        Ok((source, layout, rows)) => Ok(Batch::of_fitting(source, layout, rows)),
     }
 }
