@@ -1,5 +1,5 @@
 -- Two batches that say the same are one: the facts that a batch, a layout and a column keep have one proof each.
-use Rattle.std.proofs.Common.{◌≡◌, ℕ, ◌≤◌, ◌<◌, ◌^◌, Bool, true, ◌∷◌, [], List, length, map, refl, ap, sym, ◌∙◌, subst, IsTrue}
+use Rattle.std.proofs.Common.{◌≡◌, ℕ, ◌≤◌, ◌<◌, ◌^◌, Bool, true, ◌∷◌, [], List, length, map, refl, ap, ◌∙◌, subst}
 use Rattle.std.specs.Prelude.{is_none}
 use Rattle.std.specs.Coded.{le_prop, Coded-set, coded_bool}
 use Rattle.vast_value.specs.declared.cell.Cell.{Cell}

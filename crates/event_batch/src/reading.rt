@@ -138,48 +138,48 @@ fn net_at(bytes: &[u8]) -> Result<(Net, &[u8]), Unread>
 fn value_at(alloc: Global, elem: Elem, bytes: &[u8]) -> Result<(Value, &[u8]), Unread>
     ensures { Gives (λ x. (x.0, x.1.now)) result (value_at elem bytes.now) }
 {
-    Ok(match elem {
+    match elem {
         Elem::Bool => {
             let (b, rest) = bool_at(bytes)?;
-            (Value::Bool(b), rest)
+            Ok((Value::Bool(b), rest))
         }
         Elem::Count => {
             let (n, rest) = u64_at(bytes)?;
-            (Value::Count(n), rest)
+            Ok((Value::Count(n), rest))
         }
         Elem::Int => {
             let (n, rest) = i64_at(bytes)?;
-            (Value::Int(n), rest)
+            Ok((Value::Int(n), rest))
         }
         Elem::Time => {
             let (t, rest) = i64_at(bytes)?;
-            (Value::Time(t), rest)
+            Ok((Value::Time(t), rest))
         }
         Elem::Span => {
             let (t, rest) = i64_at(bytes)?;
-            (Value::Span(t), rest)
+            Ok((Value::Span(t), rest))
         }
         Elem::Text => {
             let (text, rest) = text_at(alloc, bytes)?;
-            (Value::Text(text), rest)
+            Ok((Value::Text(text), rest))
         }
         Elem::Name => {
             let (text, rest) = text_at(alloc, bytes)?;
-            (Value::Name(text), rest)
+            Ok((Value::Name(text), rest))
         }
         Elem::Addr => {
             let (addr, rest) = u128_at(bytes)?;
-            (Value::Addr(addr), rest)
+            Ok((Value::Addr(addr), rest))
         }
         Elem::Subnet => {
             let (net, rest) = net_at(bytes)?;
-            (Value::Subnet(net), rest)
+            Ok((Value::Subnet(net), rest))
         }
         Elem::Port => {
             let (port, rest) = u16_at(bytes)?;
-            (Value::Port(port), rest)
+            Ok((Value::Port(port), rest))
         }
-    })
+    }
 }
 
 #[tactic(auto, unfolding(crate::specs::Reading::element_at))]
