@@ -1,0 +1,7 @@
+pub mod BatchLemmas
+pub mod ContentLemmas
+pub mod FieldLemmas
+pub mod LoopLemmas
+pub mod PackingLemmas
+pub mod PlaceLemmas
+pub mod ReadingLemmas

@@ -1,0 +1,93 @@
+-- Reading items one after the other, as a loop does.
+use Rattle.std.proofs.Common.{◌≡◌, ℕ, suc, ◌-◌, ◌+◌, ◌≤◌, ◌<◌, ◌^◌, Bool, true, false, cond, ◌||◌, ltb, List, [], ◌∷◌, ◌++◌, length, get_or, take, drop, map, Option, None, Some, Result, Ok, Err, refl, sym, ap, ◌∙◌, append_assoc, add-one, arith, drop-cons}
+use Rattle.std.specs.Prelude.{IfOk}
+use Rattle.std.proofs.lemmas.Grind.{common_steps}
+use Rattle.std.proofs.lemmas.Bool.{ltb-false}
+use Rattle.std.proofs.lemmas.List.{append-nil, length-take}
+use Rattle.vast_value.specs.declared.cell.Cell.{Cell}
+use Rattle.vast_value.specs.declared.column.Column.{Column}
+use Rattle.vast_value.specs.Headings.{field_of}
+use Rattle.event_batch.specs.declared.unread.Unread.{Unread}
+use Rattle.event_batch.specs.declared.unread.Unread.TheVariants as unread
+use Rattle.event_batch.specs.Answers.{Fails, Gives}
+use Rattle.event_batch.specs.Reading.{◌>>=◌, number_at, text_at, many_at, cell_at, row_at}
+
+-- what was read before, and what is still read
+abbrev pub with_front : {A : Type 0} → List A → Option (List A × List ℕ) → Option (List A × List ℕ)
+with_front front read = read >>= λ x. Some (front ++ x.0, x.1)
+
+regroup : {A : Type 0} (front : List A) (n : A) (read : Option (List A × List ℕ)) → with_front front (read >>= λ x. Some (n ∷ x.0, x.1)) ≡ with_front (front ++ n ∷ []) read
+regroup {A} front n (Some x) = ap (λ (ns : List A). Some (ns, x.1)) (simp append_assoc)
+regroup front n None = refl
+
+pub goes_on : {A : Type 0} (one : List ℕ → Option (A × List ℕ)) (front : List A) (count i : ℕ) (bytes : List ℕ) (n : A) (after : List ℕ) (total : Option (List A × List ℕ)) → i < count → one bytes ≡ Some (n, after)
+    → with_front front (many_at one (count - i) bytes) ≡ total → with_front (front ++ n ∷ []) (many_at one (count - (i + 1)) after) ≡ total
+unfolding many_at
+goes_on one front count i bytes n after total lt h so_far =
+    let k : count - i ≡ suc (count - (i + 1)) = omega arith in
+    let here : with_front front (many_at one (count - i) bytes) ≡ with_front (front ++ n ∷ []) (many_at one (count - (i + 1)) after) = rw (k, h) (regroup front n (many_at one (count - (i + 1)) after)) in
+    sym here ∙ so_far
+
+pub ends : {A : Type 0} (one : List ℕ → Option (A × List ℕ)) (e : Unread) (front : List A) (count i : ℕ) (bytes : List ℕ) (total : Option (List A × List ℕ)) → i < count → Fails e (one bytes)
+    → with_front front (many_at one (count - i) bytes) ≡ total → Fails e total
+unfolding many_at
+ends one unread.Memory front count i bytes total lt h so_far = tt
+ends one unread.NotABatch front count i bytes total lt h so_far =
+    let k : count - i ≡ suc (count - (i + 1)) = omega arith in
+    let here : with_front front (many_at one (count - i) bytes) ≡ None = rw (k, h) refl in
+    sym so_far ∙ here
+
+pub is_done : {A : Type 0} (one : List ℕ → Option (A × List ℕ)) (front : List A) (count i : ℕ) (bytes : List ℕ) (total : Option (List A × List ℕ)) → count ≤ i → with_front front (many_at one (count - i) bytes) ≡ total → total ≡ Some (front, bytes)
+unfolding many_at
+is_done {A} one front count i bytes total le so_far =
+    let k : count - i ≡ 0 = omega arith in
+    let here : with_front front (many_at one (count - i) bytes) ≡ Some (front, bytes) = rw k (ap (λ (ns : List A). Some (ns, bytes)) (append-nil front)) in
+    sym so_far ∙ here
+
+next_column : (cs : List Column) (i : ℕ) (c : Column) → i < length cs → c ≡ get_or cs i c → map field_of (drop i cs) ≡ field_of c ∷ map field_of (drop (i + 1) cs)
+next_column cs i c lt is =
+    let parts : drop i cs ≡ get_or cs i c ∷ drop (i + 1) cs = rw add-one (drop-cons cs i c lt) in
+    rw (parts, ← is) refl
+
+pub row_goes_on : (cs : List Column) (front : List Cell) (i : ℕ) (c : Column) (bytes : List ℕ) (n : Cell) (after : List ℕ) (total : Option (List Cell × List ℕ)) → i < length cs → c ≡ get_or cs i c → cell_at c.kind bytes ≡ Some (n, after)
+    → with_front front (row_at (map field_of (drop i cs)) bytes) ≡ total → with_front (front ++ n ∷ []) (row_at (map field_of (drop (i + 1) cs)) after) ≡ total
+unfolding row_at
+row_goes_on cs front i c bytes n after total lt is h so_far =
+    let here : with_front front (row_at (map field_of (drop i cs)) bytes) ≡ with_front (front ++ n ∷ []) (row_at (map field_of (drop (i + 1) cs)) after) = rw (next_column cs i c lt is, h) (regroup front n (row_at (map field_of (drop (i + 1) cs)) after)) in
+    sym here ∙ so_far
+
+pub row_ends : (cs : List Column) (e : Unread) (front : List Cell) (i : ℕ) (c : Column) (bytes : List ℕ) (total : Option (List Cell × List ℕ)) → i < length cs → c ≡ get_or cs i c → Fails e (cell_at c.kind bytes)
+    → with_front front (row_at (map field_of (drop i cs)) bytes) ≡ total → Fails e total
+unfolding row_at
+row_ends cs unread.Memory front i c bytes total lt is h so_far = tt
+row_ends cs unread.NotABatch front i c bytes total lt is h so_far =
+    let here : with_front front (row_at (map field_of (drop i cs)) bytes) ≡ None = rw (next_column cs i c lt is, h) refl in
+    sym so_far ∙ here
+
+nothing_left : (cs : List Column) (i : ℕ) → length cs ≤ i → drop i cs ≡ []
+nothing_left cs i le = grind (arith, common_steps)
+
+pub row_is_done : (cs : List Column) (front : List Cell) (i : ℕ) (bytes : List ℕ) (total : Option (List Cell × List ℕ)) → length cs ≤ i → with_front front (row_at (map field_of (drop i cs)) bytes) ≡ total → total ≡ Some (front, bytes)
+unfolding row_at
+row_is_done cs front i bytes total le so_far =
+    let here : with_front front (row_at (map field_of (drop i cs)) bytes) ≡ Some (front, bytes) = rw (nothing_left cs i le) (ap (λ (ns : List Cell). Some (ns, bytes)) (append-nil front)) in
+    sym so_far ∙ here
+
+-- a text that is read is short
+short : (a b : Bool) (x y : List ℕ × List ℕ) → cond (a || b) None (Some x) ≡ Some y → (a ≡ false) × (x ≡ y)
+short true b x y h = absurd cc
+short false true x y h = absurd cc
+short false false x y h = (refl, cc)
+
+from_number : (n : Option (ℕ × List ℕ)) (y : List ℕ × List ℕ) → (n >>= λ m. cond (ltb (2 ^ 24) m.0 || ltb (length m.1) m.0) None (Some (take m.0 m.1, drop m.0 m.1))) ≡ Some y → length y.0 ≤ 2 ^ 24
+from_number None y h = absurd cc
+from_number (Some m) y h =
+    let parts = short (ltb (2 ^ 24) m.0) (ltb (length m.1) m.0) (take m.0 m.1, drop m.0 m.1) y h in
+    let le = ltb-false (2 ^ 24) m.0 parts.0 in
+    let text : take m.0 m.1 ≡ y.0 = ap (λ (p : List ℕ × List ℕ). p.0) parts.1 in
+    rw (← text) (omega (arith, length-take m.0 m.1))
+
+pub text_is_short : {R : Type 0} (now : R → List ℕ) (r : Result (List ℕ × R) Unread) (bytes : List ℕ) → Gives (λ x. (x.0, now x.1)) r (text_at bytes) → IfOk r (λ x. length x.0 ≤ 2 ^ 24)
+unfolding text_at
+text_is_short now (Ok x) bytes h = from_number (number_at 4 bytes) (x.0, now x.1) h
+text_is_short now (Err e) bytes h = tt

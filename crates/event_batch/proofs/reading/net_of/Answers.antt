@@ -1,0 +1,6 @@
+use Rattle.std.proofs.Common.{sym}
+use Rattle.event_batch.proofs.FieldLemmas.{net_of_itself}
+use Rattle.event_batch.proofs.reading.net_of.Goals as goal
+
+pub returns : goal.returns
+returns c = sym (net_of_itself _)

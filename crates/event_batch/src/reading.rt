@@ -1,0 +1,414 @@
+//! Reading the bytes of a batch. Each function gives a value and the bytes behind it.
+ghost use Rattle.std.specs.Prelude.{◌≡◌, ◌≤◌, ◌^◌, length, map, IfOk, ◌-◌, ◌%◌, ◌==◌};
+ghost use Rattle.vast_value.specs.Headings.{field_of, heading_of};
+ghost use Rattle.vast_value.specs.Kinds.{is_lone_unset};
+ghost use Rattle.event_batch.specs.Answers.{Gives};
+ghost use Rattle.event_batch.specs.Contents.{content_of};
+ghost use Rattle.event_batch.specs.Packings.{IsSpelled, content_in};
+ghost use Rattle.event_batch.specs.Nets.{net_of};
+ghost use Rattle.event_batch.specs.Reading.{byte_at, number_at, signed_at, text_at, bool_at, net_at, value_at, element_at, many_at, container_at, set_cell_at, cell_at, row_at, elem_of_code, kind_of_code, field_at, heading_at, rows_at, content_at};
+
+use crate::batch::{Batch, MOST_ROWS};
+use crate::rows::Rows;
+use crate::unread::Unread;
+use crate::writing::FORMAT;
+use byteorder::{ByteOrder, LittleEndian};
+use std::alloc::{AllocError, Global};
+use vast_value::{Bytes, Cell, Cells, Column, Columns, Elem, Kind, Layout, Net, Row, Value};
+
+/// The most bytes of a text and the most elements of a container.
+const LONGEST: u32 = 1 << 24;
+
+#[tactic(auto, unfolding(crate::specs::Reading::byte_at))]
+fn u8_at(bytes: &[u8]) -> Result<(u8, &[u8]), Unread>
+    ensures { Gives (λ x. (x.0, x.1.now)) result (byte_at bytes.now) }
+{
+    match bytes {
+        [] => Err(Unread::NotABatch),
+        [byte, rest @ ..] => Ok((*byte, rest)),
+    }
+}
+
+#[tactic(auto, unfolding(crate::specs::Reading::number_at))]
+fn u16_at(bytes: &[u8]) -> Result<(u16, &[u8]), Unread>
+    ensures { Gives (λ x. (x.0, x.1.now)) result (number_at 2 bytes.now) }
+{
+    if bytes.len() < 2 {
+        return Err(Unread::NotABatch);
+    }
+    Ok((LittleEndian::read_u16(bytes), &bytes[2..]))
+}
+
+#[tactic(auto, unfolding(crate::specs::Reading::number_at))]
+fn u32_at(bytes: &[u8]) -> Result<(u32, &[u8]), Unread>
+    ensures { Gives (λ x. (x.0, x.1.now)) result (number_at 4 bytes.now) }
+{
+    if bytes.len() < 4 {
+        return Err(Unread::NotABatch);
+    }
+    Ok((LittleEndian::read_u32(bytes), &bytes[4..]))
+}
+
+#[tactic(auto, unfolding(crate::specs::Reading::number_at))]
+fn u64_at(bytes: &[u8]) -> Result<(u64, &[u8]), Unread>
+    ensures { Gives (λ x. (x.0, x.1.now)) result (number_at 8 bytes.now) }
+{
+    if bytes.len() < 8 {
+        return Err(Unread::NotABatch);
+    }
+    Ok((LittleEndian::read_u64(bytes), &bytes[8..]))
+}
+
+#[tactic(auto, unfolding(crate::specs::Reading::number_at))]
+fn u128_at(bytes: &[u8]) -> Result<(u128, &[u8]), Unread>
+    ensures { Gives (λ x. (x.0, x.1.now)) result (number_at 16 bytes.now) }
+{
+    if bytes.len() < 16 {
+        return Err(Unread::NotABatch);
+    }
+    Ok((LittleEndian::read_u128(bytes), &bytes[16..]))
+}
+
+#[tactic(auto, unfolding(crate::specs::Reading::signed_at))]
+fn i64_at(bytes: &[u8]) -> Result<(i64, &[u8]), Unread>
+    ensures { Gives (λ x. (x.0, x.1.now)) result (signed_at bytes.now) }
+{
+    let (number, rest) = u64_at(bytes)?;
+    Ok((number.cast_signed(), rest))
+}
+
+#[tactic(auto, unfolding(crate::specs::Reading::bool_at))]
+fn bool_at(bytes: &[u8]) -> Result<(bool, &[u8]), Unread>
+    ensures { Gives (λ x. (x.0, x.1.now)) result (bool_at bytes.now) }
+{
+    match bytes {
+        [] => Err(Unread::NotABatch),
+        [0, rest @ ..] => Ok((false, rest)),
+        [1, rest @ ..] => Ok((true, rest)),
+        [_, ..] => Err(Unread::NotABatch),
+    }
+}
+
+#[tactic(auto, unfolding(crate::specs::Reading::text_at))]
+fn text_at(alloc: Global, bytes: &[u8]) -> Result<(Bytes, &[u8]), Unread>
+    ensures { Gives (λ x. (x.0, x.1.now)) result (text_at bytes.now) }
+{
+    let (count, rest) = u32_at(bytes)?;
+    if count > LONGEST || rest.len() < count as usize {
+        return Err(Unread::NotABatch);
+    }
+    let (text, rest) = rest.split_at(count as usize);
+    Ok((Bytes::copy(alloc, text)?, rest))
+}
+
+#[tactic(auto, unfolding(crate::specs::Nets::net_of))]
+fn net_of(base: u128, bits: u8) -> Option<Net>
+    ensures { result ≡ net_of base bits }
+{
+    if bits > 128 || !has_zeros(base, bits) {
+        return None;
+    }
+    Some(Net { base, bits })
+}
+
+// Whether the address has only zeros past the first bits.
+fn has_zeros(base: u128, bits: u8) -> bool
+    requires { bits ≤ 128 }
+    ensures { result ≡ (base % 2 ^ (128 - bits) == 0) }
+{
+    if bits == 0 {
+        return base == 0;
+    }
+    base % (1 << (128 - bits)) == 0
+}
+
+#[tactic(auto, unfolding(crate::specs::Reading::net_at))]
+fn net_at(bytes: &[u8]) -> Result<(Net, &[u8]), Unread>
+    ensures { Gives (λ x. (x.0, x.1.now)) result (net_at bytes.now) }
+{
+    let (base, rest) = u128_at(bytes)?;
+    let (bits, rest) = u8_at(rest)?;
+    match net_of(base, bits) {
+        None => Err(Unread::NotABatch),
+        Some(net) => Ok((net, rest)),
+    }
+}
+
+#[tactic(auto, unfolding(crate::specs::Reading::value_at))]
+fn value_at(alloc: Global, elem: Elem, bytes: &[u8]) -> Result<(Value, &[u8]), Unread>
+    ensures { Gives (λ x. (x.0, x.1.now)) result (value_at elem bytes.now) }
+{
+    match elem {
+        Elem::Bool => {
+            let (b, rest) = bool_at(bytes)?;
+            Ok((Value::Bool(b), rest))
+        }
+        Elem::Count => {
+            let (n, rest) = u64_at(bytes)?;
+            Ok((Value::Count(n), rest))
+        }
+        Elem::Int => {
+            let (n, rest) = i64_at(bytes)?;
+            Ok((Value::Int(n), rest))
+        }
+        Elem::Time => {
+            let (t, rest) = i64_at(bytes)?;
+            Ok((Value::Time(t), rest))
+        }
+        Elem::Span => {
+            let (t, rest) = i64_at(bytes)?;
+            Ok((Value::Span(t), rest))
+        }
+        Elem::Text => {
+            let (text, rest) = text_at(alloc, bytes)?;
+            Ok((Value::Text(text), rest))
+        }
+        Elem::Name => {
+            let (text, rest) = text_at(alloc, bytes)?;
+            Ok((Value::Name(text), rest))
+        }
+        Elem::Addr => {
+            let (addr, rest) = u128_at(bytes)?;
+            Ok((Value::Addr(addr), rest))
+        }
+        Elem::Subnet => {
+            let (net, rest) = net_at(bytes)?;
+            Ok((Value::Subnet(net), rest))
+        }
+        Elem::Port => {
+            let (port, rest) = u16_at(bytes)?;
+            Ok((Value::Port(port), rest))
+        }
+    }
+}
+
+#[tactic(auto, unfolding(crate::specs::Reading::element_at))]
+fn element_at(alloc: Global, elem: Elem, bytes: &[u8]) -> Result<(Option<Value>, &[u8]), Unread>
+    ensures { Gives (λ x. (x.0, x.1.now)) result (element_at elem bytes.now) }
+{
+    match bytes {
+        [] => Err(Unread::NotABatch),
+        [0, rest @ ..] => Ok((None, rest)),
+        [1, rest @ ..] => {
+            let (value, rest) = value_at(alloc, elem, rest)?;
+            Ok((Some(value), rest))
+        }
+        [_, ..] => Err(Unread::NotABatch),
+    }
+}
+
+fn elements_at(
+    alloc: Global,
+    elem: Elem,
+    count: u32,
+    bytes: &[u8],
+) -> Result<(Cells, &[u8]), Unread>
+    ensures { Gives (λ x. (x.0, x.1.now)) result (many_at (element_at elem) count bytes.now) }
+{
+    let mut items = Cells::new(alloc);
+    let mut rest = bytes;
+    for _ in 0..count {
+        let (item, after) = element_at(alloc, elem, rest)?;
+        items.push(item)?;
+        rest = after;
+    }
+    Ok((items, rest))
+}
+
+#[tactic(auto, unfolding(crate::specs::Reading::container_at))]
+fn container_at(alloc: Global, elem: Elem, bytes: &[u8]) -> Result<(Cell, &[u8]), Unread>
+    ensures { Gives (λ x. (x.0, x.1.now)) result (container_at elem bytes.now) }
+{
+    let (count, rest) = u32_at(bytes)?;
+    if count > LONGEST {
+        return Err(Unread::NotABatch);
+    }
+    let (items, rest) = elements_at(alloc, elem, count, rest)?;
+    if is_lone_unset(&items) {
+        return Err(Unread::NotABatch);
+    }
+    Ok((Cell::Many(items), rest))
+}
+
+fn is_lone_unset(items: &Cells) -> bool
+    ensures { result ≡ is_lone_unset items.now }
+{
+    matches!(items.as_slice(), [None])
+}
+
+#[tactic(auto, unfolding(crate::specs::Reading::set_cell_at))]
+fn set_cell_at(alloc: Global, kind: Kind, bytes: &[u8]) -> Result<(Cell, &[u8]), Unread>
+    ensures { Gives (λ x. (x.0, x.1.now)) result (set_cell_at kind bytes.now) }
+{
+    match kind {
+        Kind::One(elem) => {
+            let (value, rest) = value_at(alloc, elem, bytes)?;
+            Ok((Cell::One(value), rest))
+        }
+        Kind::SetOf(elem) => container_at(alloc, elem, bytes),
+        Kind::VecOf(elem) => container_at(alloc, elem, bytes),
+    }
+}
+
+#[tactic(auto, unfolding(crate::specs::Reading::cell_at))]
+fn cell_at(alloc: Global, kind: Kind, bytes: &[u8]) -> Result<(Cell, &[u8]), Unread>
+    ensures { Gives (λ x. (x.0, x.1.now)) result (cell_at kind bytes.now) }
+{
+    match bytes {
+        [] => Err(Unread::NotABatch),
+        [0, rest @ ..] => Ok((Cell::Unset, rest)),
+        [1, rest @ ..] => set_cell_at(alloc, kind, rest),
+        [_, ..] => Err(Unread::NotABatch),
+    }
+}
+
+fn row_at<'a>(alloc: Global, columns: &[Column], bytes: &'a [u8]) -> Result<(Row, &'a [u8]), Unread>
+    ensures { Gives (λ x. (x.0, x.1.now)) result (row_at (map field_of columns.now) bytes.now) }
+{
+    let mut row = Row::with_capacity(alloc, columns.len())?;
+    let mut rest = bytes;
+    for column in columns {
+        let (cell, after) = cell_at(alloc, column.kind, rest)?;
+        row.push(cell)?;
+        rest = after;
+    }
+    Ok((row, rest))
+}
+
+#[tactic(auto, unfolding(crate::specs::Reading::elem_of_code))]
+fn elem_of_code(code: u8) -> Option<Elem>
+    ensures { result ≡ elem_of_code code }
+{
+    match code {
+        0 => Some(Elem::Bool),
+        1 => Some(Elem::Count),
+        2 => Some(Elem::Int),
+        3 => Some(Elem::Time),
+        4 => Some(Elem::Span),
+        5 => Some(Elem::Text),
+        6 => Some(Elem::Name),
+        7 => Some(Elem::Addr),
+        8 => Some(Elem::Subnet),
+        9 => Some(Elem::Port),
+        _ => None,
+    }
+}
+
+#[tactic(auto, unfolding(crate::specs::Reading::kind_of_code))]
+fn kind_of_code(code: u8) -> Option<Kind>
+    ensures { result ≡ kind_of_code code }
+{
+    if code < 16 {
+        Some(Kind::One(elem_of_code(code)?))
+    } else if code < 32 {
+        Some(Kind::SetOf(elem_of_code(code - 16)?))
+    } else {
+        Some(Kind::VecOf(elem_of_code(code - 32)?))
+    }
+}
+
+#[tactic(auto, unfolding(crate::specs::Reading::field_at))]
+fn column_at(alloc: Global, bytes: &[u8]) -> Result<(Column, &[u8]), Unread>
+    ensures { Gives (λ x. (field_of x.0, x.1.now)) result (field_at bytes.now) }
+{
+    let (code, rest) = u8_at(bytes)?;
+    match kind_of_code(code) {
+        None => Err(Unread::NotABatch),
+        Some(kind) => {
+            let (name, rest) = name_at(alloc, rest)?;
+            Ok((Column { name, kind }, rest))
+        }
+    }
+}
+
+fn name_at(alloc: Global, bytes: &[u8]) -> Result<(Bytes, &[u8]), Unread>
+    ensures read { Gives (λ x. (x.0, x.1.now)) result (text_at bytes.now) }
+    ensures short { IfOk result (λ x. length x.0 ≤ 2 ^ 24) }
+{
+    text_at(alloc, bytes)
+}
+
+fn columns_at(alloc: Global, count: u16, bytes: &[u8]) -> Result<(Columns, &[u8]), Unread>
+    ensures { Gives (λ x. (map field_of x.0, x.1.now)) result (many_at field_at count bytes.now) }
+{
+    let mut columns = Columns::new(alloc);
+    let mut rest = bytes;
+    for _ in 0..count {
+        let (column, after) = column_at(alloc, rest)?;
+        columns.push(column)?;
+        rest = after;
+    }
+    Ok((columns, rest))
+}
+
+#[tactic(auto, unfolding(crate::specs::Reading::heading_at))]
+fn layout_at(alloc: Global, bytes: &[u8]) -> Result<(Layout, &[u8]), Unread>
+    ensures { Gives (λ x. (heading_of x.0, x.1.now)) result (heading_at bytes.now) }
+{
+    let (path, rest) = name_at(alloc, bytes)?;
+    let (count, rest) = u16_at(rest)?;
+    let (columns, rest) = columns_at(alloc, count, rest)?;
+    match Layout::new(path, columns) {
+        Err(_) => Err(Unread::NotABatch),
+        Ok(layout) => Ok((layout, rest)),
+    }
+}
+
+fn many_rows_at<'a>(
+    alloc: Global,
+    columns: &[Column],
+    count: u32,
+    bytes: &'a [u8],
+) -> Result<(Rows, &'a [u8]), Unread>
+    ensures { Gives (λ x. (x.0, x.1.now)) result (many_at (row_at (map field_of columns.now)) count bytes.now) }
+{
+    let mut rows = Rows::with_capacity(alloc, count as usize)?;
+    let mut rest = bytes;
+    for _ in 0..count {
+        let (row, after) = row_at(alloc, columns, rest)?;
+        rows.push(row)?;
+        rest = after;
+    }
+    Ok((rows, rest))
+}
+
+#[tactic(auto, unfolding(crate::specs::Reading::rows_at))]
+fn rows_at(alloc: Global, columns: &[Column], bytes: &[u8]) -> Result<Rows, Unread>
+    ensures { Gives (λ x. x) result (rows_at (map field_of columns.now) bytes.now) }
+{
+    let (count, rest) = u32_at(bytes)?;
+    if count < 1 || count as usize > MOST_ROWS {
+        return Err(Unread::NotABatch);
+    }
+    let (rows, rest) = many_rows_at(alloc, columns, count, rest)?;
+    if !rest.is_empty() {
+        return Err(Unread::NotABatch);
+    }
+    Ok(rows)
+}
+
+#[tactic(auto, unfolding(crate::specs::Reading::content_at))]
+fn parts_at(alloc: Global, bytes: &[u8]) -> Result<(u32, Layout, Rows), Unread>
+    ensures { Gives (λ x. record { source = x.0; heading = heading_of x.1; rows = x.2 }) result (content_at bytes.now) }
+{
+    let (format, rest) = u8_at(bytes)?;
+    if format != FORMAT {
+        return Err(Unread::NotABatch);
+    }
+    let (source, rest) = u32_at(rest)?;
+    let (layout, rest) = layout_at(alloc, rest)?;
+    let rows = rows_at(alloc, layout.columns(), rest)?;
+    Ok((source, layout, rows))
+}
+
+/// The batch that the bytes spell. What was read is known to be a batch, so its rows are not tested against the layout.
+pub(crate) fn read(alloc: Global, bytes: &[u8]) -> Result<Batch, AllocError>
+    requires { IsSpelled bytes.now }
+    ensures { IfOk result (λ batch. content_of batch ≡ content_in bytes.now) }
+{
+    match parts_at(alloc, bytes) {
+        Err(Unread::Memory) => Err(AllocError),
+        Err(Unread::NotABatch) => unreachable!(),
+        Ok((source, layout, rows)) => Ok(Batch::of_fitting(source, layout, rows)),
+    }
+}

@@ -1,0 +1,233 @@
+//! Writing the bytes of a batch.
+ghost use Rattle.std.specs.Prelude.{◌≡◌, ◌≤◌, ◌^◌, ◌∷◌, [], ◌++◌, length, map, IsTrue, IfOk, OnOk};
+ghost use Rattle.std.specs.Int.{w64, cast_unsigned};
+ghost use Rattle.std.specs.List.{flat_map, list_all};
+ghost use Rattle.vast_value.specs.declared.value.Value.TheVariants.{Bool as BoolOf};
+ghost use Rattle.vast_value.specs.Fit.{is_small, is_bounded, is_bounded_element};
+ghost use Rattle.vast_value.specs.Headings.{field_of, heading_of};
+ghost use Rattle.event_batch.specs.Contents.{content_of};
+ghost use Rattle.event_batch.specs.Spelling.{number, text as text_bytes, elem_code, kind_code, value_bytes, element_bytes, cell_bytes, row_bytes, field_bytes, heading_bytes, spelling};
+
+use crate::batch::Batch;
+use crate::size::batch_size;
+use byteorder::{ByteOrder, LittleEndian};
+use std::alloc::{AllocError, Global};
+use vast_value::{Cell, Column, Elem, Kind, Layout, Net, Row, Value};
+
+/// The number of the only format.
+pub(crate) const FORMAT: u8 = 1;
+
+/// The bytes of a batch, in memory that is taken at once.
+pub(crate) fn spell(alloc: Global, batch: &Batch) -> Result<Vec<u8>, AllocError>
+    ensures { IfOk result (λ block. block.items ≡ spelling (content_of batch.now)) }
+{
+    let mut block = Vec::with_capacity(alloc, batch_size(batch))?;
+    block.push(FORMAT)?;
+    put_u32(&mut block, batch.source())?;
+    put_heading(&mut block, batch.layout())?;
+    put_u32(&mut block, batch.rows().len() as u32)?;
+    put_rows(&mut block, batch.rows())?;
+    Ok(block)
+}
+
+fn put_heading(out: &mut Vec<u8>, layout: &Layout) -> Result<(), AllocError>
+    ensures { OnOk result (out.new.items ≡ out.old.items ++ heading_bytes (heading_of layout.now)) }
+{
+    put_text(out, layout.path())?;
+    put_u16(out, layout.columns().len() as u16)?;
+    put_columns(out, layout.columns())
+}
+
+fn put_columns(out: &mut Vec<u8>, columns: &[Column]) -> Result<(), AllocError>
+    ensures { OnOk result (out.new.items ≡ out.old.items ++ flat_map field_bytes (map field_of columns.now)) }
+{
+    for column in columns {
+        put_column(out, column)?;
+    }
+    Ok(())
+}
+
+fn put_column(out: &mut Vec<u8>, column: &Column) -> Result<(), AllocError>
+    ensures { OnOk result (out.new.items ≡ out.old.items ++ field_bytes (field_of column.now)) }
+{
+    out.push(kind_code(column.kind))?;
+    put_text(out, column.name.as_slice())
+}
+
+fn kind_code(kind: Kind) -> u8
+    ensures { result ≡ kind_code kind }
+{
+    match kind {
+        Kind::One(elem) => elem_code(elem),
+        Kind::SetOf(elem) => elem_code(elem) + 16,
+        Kind::VecOf(elem) => elem_code(elem) + 32,
+    }
+}
+
+fn elem_code(elem: Elem) -> u8
+    ensures code { result ≡ elem_code elem }
+    ensures small { result ≤ 9 }
+{
+    match elem {
+        Elem::Bool => 0,
+        Elem::Count => 1,
+        Elem::Int => 2,
+        Elem::Time => 3,
+        Elem::Span => 4,
+        Elem::Text => 5,
+        Elem::Name => 6,
+        Elem::Addr => 7,
+        Elem::Subnet => 8,
+        Elem::Port => 9,
+    }
+}
+
+fn put_rows(out: &mut Vec<u8>, rows: &[Row]) -> Result<(), AllocError>
+    requires { IsTrue (list_all (list_all is_small) rows.now) }
+    ensures { OnOk result (out.new.items ≡ out.old.items ++ flat_map row_bytes rows.now) }
+{
+    for row in rows {
+        put_cells(out, row.as_slice())?;
+    }
+    Ok(())
+}
+
+fn put_cells(out: &mut Vec<u8>, cells: &[Cell]) -> Result<(), AllocError>
+    requires { IsTrue (list_all is_small cells.now) }
+    ensures { OnOk result (out.new.items ≡ out.old.items ++ row_bytes cells.now) }
+{
+    for cell in cells {
+        put_cell(out, cell)?;
+    }
+    Ok(())
+}
+
+fn put_cell(out: &mut Vec<u8>, cell: &Cell) -> Result<(), AllocError>
+    requires { IsTrue (is_small cell.now) }
+    ensures { OnOk result (out.new.items ≡ out.old.items ++ cell_bytes cell.now) }
+{
+    match cell {
+        Cell::Unset => {
+            out.push(0)?;
+        }
+        Cell::One(value) => {
+            out.push(1)?;
+            put_value(out, value)?;
+        }
+        Cell::Many(items) => {
+            out.push(1)?;
+            put_u32(out, items.as_slice().len() as u32)?;
+            put_elements(out, items.as_slice())?;
+        }
+    }
+    Ok(())
+}
+
+fn put_elements(out: &mut Vec<u8>, items: &[Option<Value>]) -> Result<(), AllocError>
+    requires { IsTrue (list_all is_bounded_element items.now) }
+    ensures { OnOk result (out.new.items ≡ out.old.items ++ flat_map element_bytes items.now) }
+{
+    for item in items {
+        put_element(out, item)?;
+    }
+    Ok(())
+}
+
+fn put_element(out: &mut Vec<u8>, item: &Option<Value>) -> Result<(), AllocError>
+    requires { IsTrue (is_bounded_element item.now) }
+    ensures { OnOk result (out.new.items ≡ out.old.items ++ element_bytes item.now) }
+{
+    match item {
+        None => {
+            out.push(0)?;
+        }
+        Some(value) => {
+            out.push(1)?;
+            put_value(out, value)?;
+        }
+    }
+    Ok(())
+}
+
+fn put_value(out: &mut Vec<u8>, value: &Value) -> Result<(), AllocError>
+    requires { IsTrue (is_bounded value.now) }
+    ensures { OnOk result (out.new.items ≡ out.old.items ++ value_bytes value.now) }
+{
+    match value {
+        Value::Bool(b) => put_bool(out, *b),
+        Value::Count(n) => put_u64(out, *n),
+        Value::Int(n) => put_i64(out, *n),
+        Value::Time(t) => put_i64(out, *t),
+        Value::Span(t) => put_i64(out, *t),
+        Value::Text(text) => put_text(out, text.as_slice()),
+        Value::Name(text) => put_text(out, text.as_slice()),
+        Value::Addr(addr) => put_u128(out, *addr),
+        Value::Subnet(net) => put_net(out, net),
+        Value::Port(port) => put_u16(out, *port),
+    }
+}
+
+fn put_bool(out: &mut Vec<u8>, b: bool) -> Result<(), AllocError>
+    ensures { OnOk result (out.new.items ≡ out.old.items ++ value_bytes (BoolOf b)) }
+{
+    out.push(if b { 1 } else { 0 })?;
+    Ok(())
+}
+
+fn put_net(out: &mut Vec<u8>, net: &Net) -> Result<(), AllocError>
+    ensures { OnOk result (out.new.items ≡ out.old.items ++ (number 16 net.now.base ++ net.now.bits ∷ [])) }
+{
+    put_u128(out, net.base)?;
+    out.push(net.bits)?;
+    Ok(())
+}
+
+fn put_text(out: &mut Vec<u8>, text: &[u8]) -> Result<(), AllocError>
+    requires { length text.now ≤ 2 ^ 24 }
+    ensures { OnOk result (out.new.items ≡ out.old.items ++ text_bytes text.now) }
+{
+    put_u32(out, text.len() as u32)?;
+    out.extend_from_slice(text)
+}
+
+#[tactic(auto, unfolding(crate::specs::Spelling::number))]
+fn put_u16(out: &mut Vec<u8>, n: u16) -> Result<(), AllocError>
+    ensures { OnOk result (out.new.items ≡ out.old.items ++ number 2 n) }
+{
+    let mut bytes = [0; 2];
+    LittleEndian::write_u16(&mut bytes, n);
+    out.extend_from_slice(&bytes)
+}
+
+#[tactic(auto, unfolding(crate::specs::Spelling::number))]
+fn put_u32(out: &mut Vec<u8>, n: u32) -> Result<(), AllocError>
+    ensures { OnOk result (out.new.items ≡ out.old.items ++ number 4 n) }
+{
+    let mut bytes = [0; 4];
+    LittleEndian::write_u32(&mut bytes, n);
+    out.extend_from_slice(&bytes)
+}
+
+#[tactic(auto, unfolding(crate::specs::Spelling::number))]
+fn put_u64(out: &mut Vec<u8>, n: u64) -> Result<(), AllocError>
+    ensures { OnOk result (out.new.items ≡ out.old.items ++ number 8 n) }
+{
+    let mut bytes = [0; 8];
+    LittleEndian::write_u64(&mut bytes, n);
+    out.extend_from_slice(&bytes)
+}
+
+fn put_i64(out: &mut Vec<u8>, n: i64) -> Result<(), AllocError>
+    ensures { OnOk result (out.new.items ≡ out.old.items ++ number 8 (cast_unsigned w64 n)) }
+{
+    put_u64(out, n.cast_unsigned())
+}
+
+#[tactic(auto, unfolding(crate::specs::Spelling::number))]
+fn put_u128(out: &mut Vec<u8>, n: u128) -> Result<(), AllocError>
+    ensures { OnOk result (out.new.items ≡ out.old.items ++ number 16 n) }
+{
+    let mut bytes = [0; 16];
+    LittleEndian::write_u128(&mut bytes, n);
+    out.extend_from_slice(&bytes)
+}
