@@ -1,5 +1,5 @@
 //! Texts as bytes.
-ghost use Rattle.std.specs.Prelude.{◌≡◌, ◌≤◌, ◌^◌, [], ◌∷◌, ◌++◌, length, OnOk, OnErr, IfOk};
+ghost use Rattle.std.specs.Prelude.{◌≡◌, ◌≤◌, ◌^◌, [], ◌∷◌, ◌++◌, length, take, OnOk, OnErr, IfOk};
 
 use smallvec::SmallVec;
 use std::alloc::{AllocError, Global};
@@ -38,6 +38,14 @@ impl Bytes {
         Ok(Bytes { bytes })
     }
 
+    /// The empty text, with memory for `count` bytes.
+    pub fn with_capacity(alloc: Global, count: usize) -> Result<Self, AllocError>
+        ensures { IfOk result (λ text. text ≡ []) }
+    {
+        let bytes = SmallVec::with_capacity(alloc, count)?;
+        Ok(Bytes { bytes })
+    }
+
     /// The bytes.
     pub fn as_slice(&self) -> &[u8]
         ensures { result.now ≡ self.now }
@@ -60,6 +68,13 @@ impl Bytes {
         ensures err { OnErr result (self.new ≡ self.old) }
     {
         self.bytes.extend_from_slice(from)
+    }
+
+    /// Keeps the first `count` bytes alone, and the memory.
+    pub fn truncate(&mut self, count: usize)
+        ensures { self.new ≡ take count self.old }
+    {
+        self.bytes.truncate(count);
     }
 
     /// An equal copy.

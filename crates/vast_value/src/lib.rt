@@ -56,11 +56,14 @@ mod tests {
         let mut text = Bytes::copy(rt.alloc(), b"uid")?;
         text.push(b'0')?;
         text.append(b"123456789012345678901234567890")?;
-        let copy = text.duplicate(rt.alloc())?;
+        let mut copy = text.duplicate(rt.alloc())?;
         assert_eq!(rt;
             copy.as_slice(),
             b"uid0123456789012345678901234567890".as_slice()
         );
+        copy.truncate(3);
+        assert_eq!(rt; copy.as_slice(), b"uid".as_slice());
+        assert_eq!(rt; Bytes::with_capacity(rt.alloc(), 64)?.as_slice().len(), 0);
         Ok(())
     }
 
