@@ -18,7 +18,7 @@ use Rattle.vast_value.specs.Fit.{is_i64, is_bounded, is_bounded_element, is_shor
 use Rattle.vast_value.specs.Kinds.{elem_of, elem_eq, is_element}
 use Rattle.vast_value.proofs.NetLemmas.{net_equal}
 use Rattle.event_batch.specs.Spelling.{number, text, value_bytes, element_bytes}
-use Rattle.event_batch.specs.Nets.{net_of, net_by}
+use Rattle.vast_value.specs.Nets.{net_of, net_by}
 use Rattle.event_batch.specs.Reading.{byte_at, number_at, signed_at, text_at, bool_at, net_at, value_at, element_at, many_at}
 use Rattle.event_batch.proofs.ContentLemmas.{both}
 

@@ -16,7 +16,7 @@ use Rattle.vast_value.specs.Headings.{Field, Heading, heading_fault}
 use Rattle.vast_value.specs.Kinds.{is_lone_unset}
 use Rattle.event_batch.specs.Contents.{Content}
 use Rattle.event_batch.specs.Sizes.{is_batch_size}
-use Rattle.event_batch.specs.Nets.{net_of}
+use Rattle.vast_value.specs.Nets.{net_of}
 
 infixl 10 ◌>>=◌
 abbrev pub ◌>>=◌ : {A B : Type 0} → Option A → (A → Option B) → Option B

@@ -5,7 +5,7 @@ ghost use Rattle.vast_value.specs.Kinds.{is_lone_unset};
 ghost use Rattle.event_batch.specs.Answers.{Gives};
 ghost use Rattle.event_batch.specs.Contents.{content_of};
 ghost use Rattle.event_batch.specs.Packings.{IsSpelled, content_in};
-ghost use Rattle.event_batch.specs.Nets.{net_of};
+ghost use Rattle.vast_value.specs.Nets.{net_of};
 ghost use Rattle.event_batch.specs.Reading.{byte_at, number_at, signed_at, text_at, bool_at, net_at, value_at, element_at, many_at, container_at, set_cell_at, cell_at, row_at, elem_of_code, kind_of_code, field_at, heading_at, rows_at, content_at};
 
 use crate::batch::{Batch, MOST_ROWS};
@@ -101,7 +101,7 @@ fn text_at(alloc: Global, bytes: &[u8]) -> Result<(Bytes, &[u8]), Unread>
     Ok((Bytes::copy(alloc, text)?, rest))
 }
 
-#[tactic(auto, unfolding(crate::specs::Nets::net_of))]
+#[tactic(auto, unfolding(vast_value::specs::Nets::net_of))]
 fn net_of(base: u128, bits: u8) -> Option<Net>
     ensures { result ≡ net_of base bits }
 {

@@ -2,4 +2,5 @@ pub mod Fit
 pub mod Headings
 pub mod Kinds
 pub mod Layouts
+pub mod Nets
 pub mod Values

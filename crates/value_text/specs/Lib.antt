@@ -1,0 +1,4 @@
+pub mod Addresses
+pub mod Escapes
+pub mod Numbers
+pub mod Reading

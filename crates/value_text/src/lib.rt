@@ -1,0 +1,10 @@
+//! The texts of values and cells, as Zeek's logs spell them.
+//!
+//! The spellings are a profile of this project, after the form of Zeek's ASCII logs; addresses are spelled by RFC 4291.
+#![tactic(auto)]
+
+mod end;
+mod marks;
+
+pub use end::CellEnd;
+pub use marks::Marks;
