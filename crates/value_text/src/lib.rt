@@ -5,6 +5,7 @@
 
 mod end;
 mod marks;
+mod numbers;
 
 pub use end::CellEnd;
 pub use marks::Marks;
