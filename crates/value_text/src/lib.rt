@@ -3,6 +3,7 @@
 //! The spellings are a profile of this project, after the form of Zeek's ASCII logs; addresses are spelled by RFC 4291.
 #![tactic(auto)]
 
+mod dotted;
 mod end;
 mod marks;
 mod numbers;

@@ -1,0 +1,39 @@
+-- What is taken from the front of a text when it is read from left to right. These words serve the code's own contracts;
+-- what a text reads as is said by the other files, which cut it into pieces.
+use Rattle.std.specs.Prelude.{ℕ, ◌+◌, ◌*◌, Bool, true, false, if◌then◌else◌, List, [], ◌∷◌, Option, None, Some, length, drop, nat_le}
+use Rattle.std.specs.List.{before_first, position_or_len, fold}
+use Rattle.std.specs.Option.{option_map, option_and_then}
+use Rattle.value_text.specs.Numbers.{number_behind, if_at_most, is_point}
+use Rattle.value_text.specs.Addresses.{short_number, pieces_of, groups_to_end, plain_groups}
+
+-- A number of at most 255 up to the next point or the end, of at most so many digits behind those that gave n, and what
+-- stands from that point on.
+abbrev pub octet_behind : ℕ → ℕ → List ℕ → Option (ℕ × List ℕ)
+octet_behind more n text =
+    if nat_le (length (before_first is_point text)) more
+    then option_map (λ number. (number, drop (position_or_len is_point text) text)) (option_and_then (if_at_most 255) (number_behind n (before_first is_point text)))
+    else None
+
+-- a number of one to three digits, at most 255, up to the next point or the end, and what stands from that point on
+abbrev pub octet_at : List ℕ → Option (ℕ × List ℕ)
+octet_at text = option_map (λ number. (number, drop (position_or_len is_point text) text)) (short_number 255 (before_first is_point text))
+
+abbrev pub behind_one : List ℕ → Option (List ℕ)
+behind_one [] = None
+behind_one (b ∷ bs) = Some bs
+
+-- such a number with a point behind it, in the next place of a dotted number, and what stands behind the point
+abbrev pub octet_and_point : ℕ → List ℕ → Option (ℕ × List ℕ)
+octet_and_point n text = option_and_then (λ x. option_map (λ rest. (n * 256 + x.0, rest)) (behind_one x.1)) (octet_at text)
+
+abbrev pub at_end : ℕ → List ℕ → Option ℕ
+at_end n [] = Some n
+at_end n (b ∷ bs) = None
+
+abbrev pub last_octet : ℕ → List ℕ → Option ℕ
+last_octet n text = option_and_then (λ x. at_end (n * 256 + x.0) x.1) (octet_at text)
+
+abbrev pub dotted_at : List ℕ → Option ℕ
+dotted_at text =
+    option_and_then (λ a. option_and_then (λ b. option_and_then (λ c. last_octet c.0 c.1)
+    (octet_and_point b.0 b.1)) (octet_and_point a.0 a.1)) (octet_and_point 0 text)
