@@ -1,3 +1,4 @@
 pub mod CutLemmas
+pub mod GroupLemmas
 pub mod NumberLemmas
 pub mod OctetLemmas
