@@ -66,3 +66,13 @@ zeros_between left right = replicate (8 - (left.1 + right.1)) 0
 
 abbrev pub if_eight : ℕ × ℕ → Option ℕ
 if_eight x = if x.1 == 8 then Some x.0 else None
+
+-- the groups on both sides of a gap, with the zeros between them
+abbrev pub with_zeros : ℕ × ℕ → ℕ × ℕ → Option (List ℕ) → Option ℕ
+with_zeros left right groups =
+    if nat_le (left.1 + right.1) 7
+    then option_map (λ x. x.0) (option_and_then (λ x. groups_read x.0 x.1 groups) (groups_behind left.0 left.1 (zeros_between left right)))
+    else None
+
+abbrev pub gap_read : Option (List ℕ) → Option (List ℕ) → Option ℕ
+gap_read left right = option_and_then (λ l. option_and_then (λ r. with_zeros l r right) (groups_read 0 0 right)) (groups_read 0 0 left)

@@ -4,7 +4,7 @@ ghost use Rattle.std.specs.Option.{option_map, option_and_then};
 ghost use Rattle.std.specs.List.{position_or_len};
 ghost use Rattle.vast_value.specs.Nets.{net_of};
 ghost use Rattle.value_text.specs.Addresses.{is_hexadecimal, digit_value, hexadecimal_behind, group_of, around_gap, eight_groups, with_gap, groups_to_end, plain_groups, pieces_of, grouped_of, mapped, address_of, short_number, subnet, subnet_from, subnet_of, dotted_of};
-ghost use Rattle.value_text.specs.Places.{one_group, groups_in, last_in, groups_behind, groups_read, zeros_between, if_eight};
+ghost use Rattle.value_text.specs.Places.{one_group, groups_in, last_in, groups_behind, groups_read, zeros_between, if_eight, with_zeros, gap_read};
 
 use crate::dotted::dotted_of;
 use crate::groups::Groups;
@@ -160,4 +160,132 @@ fn eight_groups(text: &[u8]) -> Option<u128>
     } else {
         None
     }
+}
+
+// The first `::`, as what stands before it and behind it.
+fn around_gap(text: &[u8]) -> Option<(&[u8], &[u8])>
+    ensures { option_map (λ p. (p.0.now, p.1.now)) result ≡ around_gap text.now }
+{
+    for at in 1..text.len() {
+        if text[at - 1] == b':' && text[at] == b':' {
+            let (left, _) = text.split_at(at - 1);
+            let (_, right) = text.split_at(at + 1);
+            return Some((left, right));
+        }
+    }
+    None
+}
+
+fn gap_read(left: &[u8], right: &[u8]) -> Option<u128>
+    ensures { result ≡ gap_read (groups_in false left.now) (groups_in true right.now) }
+{
+    let before = with_text(no_groups(), false, left)?;
+    let behind = with_text(no_groups(), true, right)?;
+    let known = before.count + behind.count;
+    if known >= GROUPS {
+        return None;
+    }
+    let padded = with_zeros(before, GROUPS - known)?;
+    let all = with_text(padded, true, right)?;
+    Some(all.number)
+}
+
+fn grouped_of(text: &[u8]) -> Option<u128>
+    ensures { result ≡ grouped_of text.now }
+{
+    match around_gap(text) {
+        None => eight_groups(text),
+        Some((left, right)) => gap_read(left, right),
+    }
+}
+
+fn mapped(number: u32) -> u128
+    ensures { result ≡ mapped number }
+{
+    (0xffff << 32) + number as u128
+}
+
+/// The number of an address, in the dotted form or in groups.
+pub(crate) fn address_of(text: &[u8]) -> Option<u128>
+    ensures { result ≡ address_of text.now }
+{
+    match dotted_of(text) {
+        Some(number) => Some(mapped(number)),
+        None => grouped_of(text),
+    }
+}
+
+fn short_number(most: u64, text: &[u8]) -> Option<u64>
+    ensures value { result ≡ short_number most text.now }
+    ensures below { IfSome result (λ n. n ≤ most) }
+{
+    if text.len() > 3 {
+        return None;
+    }
+    number_up_to(most, text)
+}
+
+fn masked(address: u128, bits: u8) -> u128
+    requires { bits ≤ 128 }
+    ensures { result ≡ address / 2 ^ (128 - bits) * 2 ^ (128 - bits) }
+{
+    if bits == 0 {
+        return 0;
+    }
+    (address >> (128 - bits)) << (128 - bits)
+}
+
+// Whether the address has only zeros past the first bits.
+fn has_zeros(base: u128, bits: u8) -> bool
+    requires { bits ≤ 128 }
+    ensures { result ≡ (base % 2 ^ (128 - bits) == 0) }
+{
+    if bits == 0 {
+        return base == 0;
+    }
+    base % (1 << (128 - bits)) == 0
+}
+
+#[tactic(auto, unfolding(vast_value::specs::Nets::net_of))]
+fn net_of(base: u128, bits: u8) -> Option<Net>
+    ensures { result ≡ net_of base bits }
+{
+    if bits > 128 || !has_zeros(base, bits) {
+        return None;
+    }
+    Some(Net { base, bits })
+}
+
+// The subnet of the first bits of an address, whose other bits are set to 0.
+fn subnet(address: u128, bits: u64) -> Option<Net>
+    requires { bits ≤ 128 }
+    ensures { result ≡ subnet address bits }
+{
+    let bits = bits as u8;
+    let base = masked(address, bits);
+    net_of(base, bits)
+}
+
+fn subnet_by(address: &[u8], bits: &[u8]) -> Option<Net>
+    ensures { result ≡ subnet_from (dotted_of address.now) (grouped_of address.now) bits.now }
+{
+    match dotted_of(address) {
+        Some(number) => {
+            let bits = short_number(32, bits)?;
+            subnet(mapped(number), 96 + bits)
+        }
+        None => {
+            let address = grouped_of(address)?;
+            let bits = short_number(128, bits)?;
+            subnet(address, bits)
+        }
+    }
+}
+
+/// The subnet of an address, a slash and one to three digits.
+pub(crate) fn subnet_of(text: &[u8]) -> Option<Net>
+    ensures { result ≡ subnet_of text.now }
+{
+    let (address, rest) = text.split_at(first_at(b'/', text));
+    subnet_by(address, behind_one(rest))
 }

@@ -34,7 +34,8 @@ fn few_digits(text: &[u8]) -> Option<u64>
 }
 
 fn with_digit(number: u64, byte: u8, most: u64) -> Option<u64>
-    ensures { result ≡ (if is_digit byte then if_at_most most (number * 10 + (byte - 48)) else None) }
+    ensures value { result ≡ (if is_digit byte then if_at_most most (number * 10 + (byte - 48)) else None) }
+    ensures below { IfSome result (λ n. n ≤ most) }
 {
     if !is_digit(byte) {
         return None;
@@ -49,7 +50,8 @@ fn with_digit(number: u64, byte: u8, most: u64) -> Option<u64>
 
 // The number of any digits, if it is at most so much.
 fn many_digits(text: &[u8], most: u64) -> Option<u64>
-    ensures { result ≡ option_and_then (if_at_most most) (number_behind 0 text.now) }
+    ensures value { result ≡ option_and_then (if_at_most most) (number_behind 0 text.now) }
+    ensures below { IfSome result (λ n. n ≤ most) }
 {
     let mut number = 0u64;
     for byte in text {
@@ -63,7 +65,8 @@ fn many_digits(text: &[u8], most: u64) -> Option<u64>
 
 /// The number of one or more digits, if it is at most `most`.
 pub(crate) fn number_up_to(most: u64, text: &[u8]) -> Option<u64>
-    ensures { result ≡ number_up_to most text.now }
+    ensures value { result ≡ number_up_to most text.now }
+    ensures below { IfSome result (λ n. n ≤ most) }
 {
     if text.is_empty() {
         return None;
