@@ -1,9 +1,9 @@
 //! Addresses and subnets.
-ghost use Rattle.std.specs.Prelude.{◌≡◌, ℕ, ◌+◌, ◌-◌, ◌*◌, ◌/◌, ◌^◌, ◌<◌, ◌≤◌, ◌%◌, ◌==◌, [], ◌∷◌, if◌then◌else◌, length, drop, replicate, IfSome, Some, None, nat_le, true, false};
+ghost use Rattle.std.specs.Prelude.{◌≡◌, ℕ, ◌+◌, ◌-◌, ◌*◌, ◌/◌, ◌^◌, ◌<◌, ◌≤◌, ◌%◌, ◌==◌, ◌&&◌, [], ◌∷◌, if◌then◌else◌, length, drop, replicate, IfSome, Some, None, nat_le, true, false};
 ghost use Rattle.std.specs.Option.{option_map, option_and_then};
 ghost use Rattle.std.specs.List.{position_or_len};
 ghost use Rattle.vast_value.specs.Nets.{net_of};
-ghost use Rattle.value_text.specs.Addresses.{is_hexadecimal, digit_value, hexadecimal_behind, group_of, around_gap, eight_groups, with_gap, groups_to_end, plain_groups, pieces_of, grouped_of, mapped, address_of, short_number, subnet, subnet_from, subnet_of, dotted_of};
+ghost use Rattle.value_text.specs.Addresses.{is_colon, is_hexadecimal, digit_value, hexadecimal_behind, group_of, around_gap, eight_groups, with_gap, groups_to_end, plain_groups, pieces_of, grouped_of, mapped, address_of, short_number, subnet, subnet_from, subnet_of, dotted_of};
 ghost use Rattle.value_text.specs.Places.{one_group, groups_in, last_in, groups_behind, groups_read, zeros_between, if_eight, with_zeros, gap_read};
 
 use crate::dotted::dotted_of;
@@ -162,12 +162,19 @@ fn eight_groups(text: &[u8]) -> Option<u128>
     }
 }
 
+#[inline]
+fn is_gap(first: u8, second: u8) -> bool
+    ensures { result ≡ (is_colon first && is_colon second) }
+{
+    first == b':' && second == b':'
+}
+
 // The first `::`, as what stands before it and behind it.
 fn around_gap(text: &[u8]) -> Option<(&[u8], &[u8])>
     ensures { option_map (λ p. (p.0.now, p.1.now)) result ≡ around_gap text.now }
 {
     for at in 1..text.len() {
-        if text[at - 1] == b':' && text[at] == b':' {
+        if is_gap(text[at - 1], text[at]) {
             let (left, _) = text.split_at(at - 1);
             let (_, right) = text.split_at(at + 1);
             return Some((left, right));

@@ -6,9 +6,12 @@
 mod addresses;
 mod dotted;
 mod end;
+mod escapes;
 mod groups;
 mod marks;
 mod numbers;
+mod reading;
 
 pub use end::CellEnd;
 pub use marks::Marks;
+pub use reading::read_value;
