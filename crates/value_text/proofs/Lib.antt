@@ -1,6 +1,7 @@
 pub mod AddressLemmas
 pub mod AnswerLemmas
 pub mod CutLemmas
+pub mod ElementLemmas
 pub mod EscapeLemmas
 pub mod GapLemmas
 pub mod GroupLemmas

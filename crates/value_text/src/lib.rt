@@ -14,4 +14,4 @@ mod reading;
 
 pub use end::CellEnd;
 pub use marks::Marks;
-pub use reading::read_value;
+pub use reading::{read_cell, read_value};

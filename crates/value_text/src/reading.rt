@@ -1,5 +1,5 @@
 //! Reading values and cells.
-ghost use Rattle.std.specs.Prelude.{◌≡◌, ℕ, ◌+◌, ◌^◌, ◌<◌, ◌≤◌, ◌==◌, [], ◌∷◌, if◌then◌else◌, length, IsTrue, IfOk, IsErrOf, Some, None, Option, true};
+ghost use Rattle.std.specs.Prelude.{◌≡◌, ℕ, ◌+◌, ◌^◌, ◌<◌, ◌≤◌, ◌==◌, [], ◌∷◌, if◌then◌else◌, length, IsTrue, IfOk, IsErrOf, OnOk, Some, None, Option, true};
 ghost use Rattle.std.specs.List.{list_all, slice_split};
 ghost use Rattle.std.specs.Option.{option_map};
 ghost use Rattle.std.specs.Str.{bytes_eq};
@@ -7,7 +7,7 @@ ghost use Rattle.vast_value.specs.Fit.{is_bounded, is_bounded_element, is_small}
 ghost use Rattle.vast_value.specs.Kinds.{has_kind};
 ghost use Rattle.value_text.specs.Escapes.{unescaped};
 ghost use Rattle.value_text.specs.Reading.{bool_of, is_text, value_read, set_read, element_read, elements_read, container_read, kind_read, cell_read};
-ghost use Rattle.value_text.specs.Answers.{Gives};
+ghost use Rattle.value_text.specs.Answers.{Gives, PutsElement};
 
 use crate::addresses::{address_of, subnet_of};
 use crate::end::CellEnd;
@@ -94,3 +94,154 @@ pub fn read_value(alloc: Global, elem: Elem, text: &[u8]) -> Result<Value, CellE
     value_of(alloc, elem, text)
 }
 
+
+#[inline]
+fn equals(raw: &[u8], mark: &Bytes) -> bool
+    ensures { result ≡ bytes_eq raw.now mark.now }
+{
+    let mark = mark.as_slice();
+    raw.len() == mark.len() && raw == mark
+}
+
+// A string or an enum that is not unset.
+#[tactic(auto, using(crate::proofs::EscapeLemmas::plain_stays))]
+fn text_read(alloc: Global, marks: &Marks, raw: &[u8]) -> Result<Bytes, AllocError>
+    ensures { IfOk result (λ text. text ≡ (if bytes_eq raw.now marks.now.empty then [] else unescaped raw.now)) }
+{
+    if equals(raw, &marks.empty) {
+        return Ok(Bytes::new(alloc));
+    }
+    if has_backslash(raw) {
+        return unescape(alloc, raw);
+    }
+    copied(alloc, raw)
+}
+
+// A value of another kind.
+fn escaped_read(alloc: Global, elem: Elem, raw: &[u8]) -> Result<Value, CellEnd>
+    ensures value { Gives result (value_read elem (unescaped raw.now)) }
+    ensures bounded { length raw.now ≤ 2 ^ 24 → IfOk result (λ value. IsTrue (is_bounded value)) }
+{
+    if !has_backslash(raw) {
+        return value_of(alloc, elem, raw);
+    }
+    let text = unescape(alloc, raw)?;
+    value_of(alloc, elem, text.as_slice())
+}
+
+// The value of a text that is not unset.
+#[tactic(auto, unfolding(crate::specs::Reading::value_read))]
+fn set_read(alloc: Global, elem: Elem, marks: &Marks, raw: &[u8]) -> Result<Value, CellEnd>
+    ensures value { Gives result (set_read marks.now elem raw.now) }
+    ensures bounded { length raw.now ≤ 2 ^ 24 → IfOk result (λ value. IsTrue (is_bounded value)) }
+{
+    match elem {
+        Elem::Text => Ok(Value::Text(text_read(alloc, marks, raw)?)),
+        Elem::Name => Ok(Value::Name(text_read(alloc, marks, raw)?)),
+        _ => escaped_read(alloc, elem, raw),
+    }
+}
+
+fn element_read(alloc: Global, elem: Elem, marks: &Marks, raw: &[u8]) -> Result<Option<Value>, CellEnd>
+    ensures value { Gives result (element_read marks.now elem raw.now) }
+    ensures bounded { length raw.now ≤ 2 ^ 24 → IfOk result (λ item. IsTrue (is_bounded_element item)) }
+{
+    if equals(raw, &marks.unset) {
+        return Ok(None);
+    }
+    match set_read(alloc, elem, marks, raw) {
+        Err(end) => Err(end),
+        Ok(value) => Ok(Some(value)),
+    }
+}
+
+// One more element.
+fn put_element(
+    alloc: Global,
+    elem: Elem,
+    marks: &Marks,
+    raw: &[u8],
+    items: &mut Cells,
+) -> Result<(), CellEnd>
+    ensures value { PutsElement result items.old items.new (element_read marks.now elem raw.now) }
+    ensures bounded { length raw.now ≤ 2 ^ 24 → list_all is_bounded_element items.old ≡ true → OnOk result (list_all is_bounded_element items.new ≡ true) }
+{
+    match element_read(alloc, elem, marks, raw) {
+        Err(end) => Err(end),
+        Ok(item) => {
+            items.push(item)?;
+            Ok(())
+        }
+    }
+}
+
+fn elements_read(alloc: Global, elem: Elem, marks: &Marks, raw: &[u8]) -> Result<Cells, CellEnd>
+    ensures value { Gives result (elements_read marks.now elem (slice_split (λ b. b == marks.now.set_separator) raw.now)) }
+    ensures bounded { length raw.now ≤ 2 ^ 24 → IfOk result (λ items. list_all is_bounded_element items ≡ true) }
+    ensures count { IfOk result (λ items. length items ≤ length raw.now + 1) }
+{
+    let mut items = Cells::new(alloc);
+    let mut rest = raw;
+    let mut at = first_at(marks.set_separator, rest);
+    while at < rest.len() {
+        let (piece, behind) = rest.split_at(at);
+        put_element(alloc, elem, marks, piece, &mut items)?;
+        rest = behind_one(behind);
+        at = first_at(marks.set_separator, rest);
+    }
+    put_element(alloc, elem, marks, rest, &mut items)?;
+    Ok(items)
+}
+
+fn container_read(alloc: Global, elem: Elem, marks: &Marks, raw: &[u8]) -> Result<Cell, CellEnd>
+    ensures value { Gives result (container_read marks.now elem raw.now) }
+    ensures small { length raw.now < 2 ^ 24 → IfOk result (λ cell. IsTrue (is_small cell)) }
+{
+    if equals(raw, &marks.empty) {
+        return Ok(Cell::Many(Cells::new(alloc)));
+    }
+    match elements_read(alloc, elem, marks, raw) {
+        Err(end) => Err(end),
+        Ok(items) => Ok(Cell::Many(items)),
+    }
+}
+
+fn kind_read(alloc: Global, kind: Kind, marks: &Marks, raw: &[u8]) -> Result<Cell, CellEnd>
+    ensures value { Gives result (kind_read marks.now kind raw.now) }
+    ensures small { length raw.now < 2 ^ 24 → IfOk result (λ cell. IsTrue (is_small cell)) }
+{
+    match kind {
+        Kind::One(elem) => match set_read(alloc, elem, marks, raw) {
+            Err(end) => Err(end),
+            Ok(value) => Ok(Cell::One(value)),
+        },
+        Kind::SetOf(elem) => container_read(alloc, elem, marks, raw),
+        Kind::VecOf(elem) => container_read(alloc, elem, marks, raw),
+    }
+}
+
+#[tactic(auto, unfolding(crate::specs::Reading::cell_read))]
+fn cell_read(alloc: Global, kind: Kind, marks: &Marks, raw: &[u8]) -> Result<Cell, CellEnd>
+    ensures value { Gives result (cell_read marks.now kind raw.now) }
+    ensures small { length raw.now < 2 ^ 24 → IfOk result (λ cell. IsTrue (is_small cell)) }
+{
+    if equals(raw, &marks.unset) {
+        return Ok(Cell::Unset);
+    }
+    kind_read(alloc, kind, marks, raw)
+}
+
+/// The cell of a kind that a log's raw bytes spell.
+///
+/// The raw bytes equal to the unset text are the unset cell; those equal to the empty text are a container without elements,
+/// or the empty string or enum. Any other container is cut at each set separator into elements, of which one equal to the
+/// unset text is unset, and one equal to the empty text is the empty string or enum. All else has its escapes undone
+/// and is read by [`read_value`].
+pub fn read_cell(alloc: Global, kind: Kind, marks: &Marks, raw: &[u8]) -> Result<Cell, CellEnd>
+    ensures cell { IfOk result (λ cell. cell_read marks.now kind raw.now ≡ Some cell) }
+    ensures bad { IsErrOf result CellEnd.BadText → cell_read marks.now kind raw.now ≡ None }
+    ensures kind { IfOk result (λ cell. IsTrue (has_kind cell kind)) }
+    ensures small { length raw.now < 2 ^ 24 → IfOk result (λ cell. IsTrue (is_small cell)) }
+{
+    cell_read(alloc, kind, marks, raw)
+}
