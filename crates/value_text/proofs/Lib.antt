@@ -5,6 +5,7 @@ pub mod ElementLemmas
 pub mod EscapeLemmas
 pub mod GapLemmas
 pub mod GroupLemmas
+pub mod KindLemmas
 pub mod NetLemmas
 pub mod NumberLemmas
 pub mod OctetLemmas

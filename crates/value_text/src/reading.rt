@@ -117,16 +117,25 @@ fn text_read(alloc: Global, marks: &Marks, raw: &[u8]) -> Result<Bytes, AllocErr
     copied(alloc, raw)
 }
 
-// A value of another kind.
+// A value whose escapes are to be undone.
+fn undone_read(alloc: Global, elem: Elem, raw: &[u8]) -> Result<Value, CellEnd>
+    ensures value { Gives result (value_read elem (unescaped raw.now)) }
+    ensures bounded { length raw.now ≤ 2 ^ 24 → IfOk result (λ value. IsTrue (is_bounded value)) }
+{
+    let text = unescape(alloc, raw)?;
+    value_of(alloc, elem, text.as_slice())
+}
+
+// A value that has escapes or none.
+#[tactic(auto, using(crate::proofs::EscapeLemmas::plain_stays))]
 fn escaped_read(alloc: Global, elem: Elem, raw: &[u8]) -> Result<Value, CellEnd>
     ensures value { Gives result (value_read elem (unescaped raw.now)) }
     ensures bounded { length raw.now ≤ 2 ^ 24 → IfOk result (λ value. IsTrue (is_bounded value)) }
 {
-    if !has_backslash(raw) {
-        return value_of(alloc, elem, raw);
+    if has_backslash(raw) {
+        return undone_read(alloc, elem, raw);
     }
-    let text = unescape(alloc, raw)?;
-    value_of(alloc, elem, text.as_slice())
+    value_of(alloc, elem, raw)
 }
 
 // The value of a text that is not unset.
@@ -165,6 +174,7 @@ fn put_element(
 ) -> Result<(), CellEnd>
     ensures value { PutsElement result items.old items.new (element_read marks.now elem raw.now) }
     ensures bounded { length raw.now ≤ 2 ^ 24 → list_all is_bounded_element items.old ≡ true → OnOk result (list_all is_bounded_element items.new ≡ true) }
+    ensures count { OnOk result (length items.new ≡ length items.old + 1) }
 {
     match element_read(alloc, elem, marks, raw) {
         Err(end) => Err(end),
@@ -185,12 +195,16 @@ fn elements_read(alloc: Global, elem: Elem, marks: &Marks, raw: &[u8]) -> Result
     let mut at = first_at(marks.set_separator, rest);
     while at < rest.len() {
         let (piece, behind) = rest.split_at(at);
-        put_element(alloc, elem, marks, piece, &mut items)?;
-        rest = behind_one(behind);
+        match put_element(alloc, elem, marks, piece, &mut items) {
+            Err(end) => return Err(end),
+            Ok(()) => rest = behind_one(behind),
+        }
         at = first_at(marks.set_separator, rest);
     }
-    put_element(alloc, elem, marks, rest, &mut items)?;
-    Ok(items)
+    match put_element(alloc, elem, marks, rest, &mut items) {
+        Err(end) => Err(end),
+        Ok(()) => Ok(items),
+    }
 }
 
 fn container_read(alloc: Global, elem: Elem, marks: &Marks, raw: &[u8]) -> Result<Cell, CellEnd>
