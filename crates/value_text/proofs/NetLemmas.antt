@@ -13,4 +13,3 @@ net_is n false b p q ha hb = absurd cc
 pub net_of_itself : (n : Net) → net_of n.base n.bits ≡ Some n
 unfolding net_of
 net_of_itself n = net_is n _ _ refl refl (le-leb n.bits 128 n.narrow) (eq-eqb _ 0 n.masked)
-

@@ -18,7 +18,13 @@ fn octet_ended(number: u32, text: &[u8]) -> Option<(u32, &[u8])>
     }
     match text {
         [] => Some((number, text)),
-        [first, ..] => { if *first == b'.' { Some((number, text)) } else { None } }
+        [first, ..] => {
+            if *first == b'.' {
+                Some((number, text))
+            } else {
+                None
+            }
+        }
     }
 }
 

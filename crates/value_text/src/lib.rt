@@ -15,3 +15,6 @@ mod reading;
 pub use end::CellEnd;
 pub use marks::Marks;
 pub use reading::{read_cell, read_value};
+
+#[cfg(test)]
+mod tests;

@@ -94,7 +94,6 @@ pub fn read_value(alloc: Global, elem: Elem, text: &[u8]) -> Result<Value, CellE
     value_of(alloc, elem, text)
 }
 
-
 #[inline]
 fn equals(raw: &[u8], mark: &Bytes) -> bool
     ensures { result ≡ bytes_eq raw.now mark.now }
@@ -151,7 +150,12 @@ fn set_read(alloc: Global, elem: Elem, marks: &Marks, raw: &[u8]) -> Result<Valu
     }
 }
 
-fn element_read(alloc: Global, elem: Elem, marks: &Marks, raw: &[u8]) -> Result<Option<Value>, CellEnd>
+fn element_read(
+    alloc: Global,
+    elem: Elem,
+    marks: &Marks,
+    raw: &[u8],
+) -> Result<Option<Value>, CellEnd>
     ensures value { Gives result (element_read marks.now elem raw.now) }
     ensures bounded { length raw.now ≤ 2 ^ 24 → IfOk result (λ item. IsTrue (is_bounded_element item)) }
 {

@@ -14,11 +14,13 @@ returns-in-None c =
     ∙ c.loop-at.invariant.0
 
 pub loop-at-preserved : goal.loop-at-preserved
-loop-at-preserved c =
-    (ap (option_and_then (read_behind (groups_of c.args.dotted (slice_split is_colon c.behind_one-rest.result.now)))) c.in-Some.ensures
-    ∙ sym (read_step c.loop-at.groups.number c.loop-at.groups.count c.args.dotted c.loop-at.rest.now c.split_at.result.0.now c.split_at.result.1.now c.behind_one-rest.result.now c.loop-at.at
-    c.loop-at.invariant.1 (omega arith) c.split_at.ensures.front c.split_at.ensures.back c.behind_one-rest.ensures)
-    ∙ c.loop-at.invariant.0, c.first_at-at-in-loop-at.ensures.value)
+loop-at-preserved c = (
+  ap (option_and_then (read_behind (groups_of c.args.dotted (slice_split is_colon c.behind_one-rest.result.now)))) c.in-Some.ensures
+      ∙ sym (read_step c.loop-at.groups.number c.loop-at.groups.count c.args.dotted c.loop-at.rest.now c.split_at.result.0.now c.split_at.result.1.now c.behind_one-rest.result.now c.loop-at.at
+      c.loop-at.invariant.1 (omega arith) c.split_at.ensures.front c.split_at.ensures.back c.behind_one-rest.ensures)
+      ∙ c.loop-at.invariant.0,
+  c.first_at-at-in-loop-at.ensures.value,
+)
 
 pub returns : goal.returns
 returns c =

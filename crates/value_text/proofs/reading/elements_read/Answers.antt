@@ -39,10 +39,10 @@ loop-at-preserved c =
     let within : length piece ≤ length c.args.raw.now = omega (arith, c.loop-at.invariant.count, c.split_at.ensures.front_len) in
     record {
       read =
-        put_step c.loop-at.items c.put_element.new.items (element_read marks elem piece) (elements_read marks elem (slice_split (is_separator marks) more)) (elements_read marks elem (slice_split (is_separator marks) rest))
-        c.in-Ok.ensures.value
-        (element_step marks elem rest piece behind more c.loop-at.at c.loop-at.invariant.place below c.split_at.ensures.front c.split_at.ensures.back c.behind_one-rest.ensures)
-        ∙ c.loop-at.invariant.read;
+          put_step c.loop-at.items c.put_element.new.items (element_read marks elem piece) (elements_read marks elem (slice_split (is_separator marks) more)) (elements_read marks elem (slice_split (is_separator marks) rest))
+          c.in-Ok.ensures.value
+          (element_step marks elem rest piece behind more c.loop-at.at c.loop-at.invariant.place below c.split_at.ensures.front c.split_at.ensures.back c.behind_one-rest.ensures)
+          ∙ c.loop-at.invariant.read;
       place = c.first_at-at-in-loop-at.ensures.value;
       bounded = λ few. c.in-Ok.ensures.bounded (omega arith) (c.loop-at.invariant.bounded few);
       count = omega (arith, c.in-Ok.ensures.count, c.loop-at.invariant.count, length-drop 1 behind, c.split_at.ensures.back_len);

@@ -8,7 +8,7 @@ use Rattle.value_text.proofs.reading.elements_read.Given as goal
 abbrev pub invariant-loop-at : goal.invariant-loop-at
 invariant-loop-at l = record {
   read : with_front l.items (elements_read l.marks l.elem (slice_split (λ b. b == l.marks.set_separator) l.rest))
-  ≡ elements_read l.marks l.elem (slice_split (λ b. b == l.marks.set_separator) l.raw);
+      ≡ elements_read l.marks l.elem (slice_split (λ b. b == l.marks.set_separator) l.raw);
   place : l.at ≡ position_or_len (λ b. b == l.marks.set_separator) l.rest;
   bounded : length l.raw ≤ 2 ^ 24 → list_all is_bounded_element l.items ≡ true;
   count : length l.items + length l.rest ≤ length l.raw;
