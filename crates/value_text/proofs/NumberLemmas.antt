@@ -78,3 +78,7 @@ nanoseconds_cut text whole rest digits k at front back behind =
     nanoseconds_bounded (number_of whole) (fraction_of digits)
     ∙ ap (λ xs. option_and_then (if_at_most (2 ^ 63)) (option_and_then (λ w. option_map (λ p. w * 10 ^ 9 + p) (fraction_of xs)) (number_of whole))) e
     ∙ ap (λ xs. option_and_then (if_at_most (2 ^ 63)) (option_and_then (λ w. option_map (λ p. w * 10 ^ 9 + p) (fraction_of (after_first is_point text))) (number_of xs))) f
+
+-- a number of at most four digits
+pub four_digits : (n i : ℕ) → n < 10 ^ i → i ≤ 4 → n ≤ 9999
+four_digits n i below few = let q : 10 ^ i ≤ 10 ^ 4 = ten_pow i 4 few in omega arith

@@ -8,12 +8,16 @@ mod dotted;
 mod end;
 mod escapes;
 mod groups;
+mod literal;
 mod marks;
+mod moment;
 mod numbers;
 mod reading;
 
 pub use end::CellEnd;
+pub use literal::read_literal;
 pub use marks::Marks;
+pub use moment::read_moment;
 pub use reading::{read_cell, read_value};
 
 #[cfg(test)]

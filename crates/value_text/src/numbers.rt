@@ -18,7 +18,7 @@ pub(crate) fn is_digit(byte: u8) -> bool
 }
 
 // The number of so few digits that it fits. Of no digits it is 0.
-fn few_digits(text: &[u8]) -> Option<u64>
+pub(crate) fn few_digits(text: &[u8]) -> Option<u64>
     requires { length text.now ≤ 19 }
     ensures value { result ≡ number_behind 0 text.now }
     ensures below { IfSome result (λ n. n < 10 ^ length text.now) }
@@ -99,7 +99,7 @@ fn without_sign(text: &[u8]) -> &[u8]
     }
 }
 
-fn with_sign(negative: bool, number: u64) -> Option<i64>
+pub(crate) fn with_sign(negative: bool, number: u64) -> Option<i64>
     ensures { result ≡ if_i64 negative number }
 {
     if negative {
@@ -164,7 +164,7 @@ fn ten_to(power: usize) -> u64
 }
 
 #[tactic(auto, using(crate::proofs::NumberLemmas::fraction_fits))]
-fn fraction_of(digits: &[u8]) -> Option<u64>
+pub(crate) fn fraction_of(digits: &[u8]) -> Option<u64>
     ensures value { result ≡ fraction_of digits.now }
     ensures below { IfSome result (λ n. n < 10 ^ 9) }
 {
