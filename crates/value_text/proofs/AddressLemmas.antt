@@ -1,5 +1,5 @@
 -- A subnet is read from what stands before the slash and behind it.
-use Rattle.std.proofs.Common.{◌≡◌, ℕ, ◌+◌, List, take, drop, ap, sym, ◌∙◌, arith}
+use Rattle.std.proofs.Common.{◌≡◌, ℕ, List, take, drop, ap, ◌∙◌, arith}
 use Rattle.std.proofs.lemmas.List.{drop-drop}
 use Rattle.std.specs.List.{position_or_len, before_first, after_first}
 use Rattle.value_text.specs.Addresses.{is_slash, dotted_of, grouped_of, subnet_from, subnet_of}

@@ -1,5 +1,5 @@
 -- What a function gave, as two facts.
-use Rattle.std.proofs.Common.{◌≡◌, Option, Some, None, Result, Ok, Err, refl}
+use Rattle.std.proofs.Common.{◌≡◌, Option, Some, None, Result, Ok, Err}
 use Rattle.std.specs.Result.{IfOk, IsErrOf}
 use Rattle.value_text.specs.declared.end.CellEnd.{CellEnd}
 use Rattle.value_text.specs.declared.end.CellEnd.TheVariants.{BadText, Memory}

@@ -1,5 +1,5 @@
 -- A text cut at the first byte that passes a test, from its front.
-use Rattle.std.proofs.Common.{◌≡◌, ℕ, zero, suc, ◌+◌, ◌<◌, Bool, true, false, cond, not, List, [], ◌∷◌, ◌++◌, length, take, drop, refl, ap, sym, ◌∙◌, arith}
+use Rattle.std.proofs.Common.{◌≡◌, ℕ, suc, Bool, true, false, List, [], ◌∷◌, take, drop, refl, ap, sym, ◌∙◌, arith}
 use Rattle.std.specs.List.{position_or_len, before_first, slice_split, onto_first}
 
 -- what stands from the first byte on that passes

@@ -1,12 +1,12 @@
 -- The gap of an address: two colons.
-use Rattle.std.proofs.Common.{◌≡◌, ℕ, zero, suc, ◌+◌, ◌-◌, ◌*◌, ◌^◌, ◌<◌, ◌≤◌, Bool, true, false, if◌then◌else◌, cond, not, nat_le, List, [], ◌∷◌, ◌++◌, Option, None, Some, length, take, drop, get_or, replicate, refl, ap, sym, ◌∙◌, subst, arith, ◌==◌, ◌&&◌, append_assoc, append-nil}
+use Rattle.std.proofs.Common.{◌≡◌, ℕ, zero, suc, ◌+◌, ◌-◌, ◌*◌, ◌<◌, ◌≤◌, Bool, true, false, if◌then◌else◌, nat_le, List, [], ◌∷◌, ◌++◌, Option, None, Some, length, take, drop, get_or, replicate, refl, ap, sym, ◌∙◌, subst, arith, ◌&&◌}
 use Rattle.std.proofs.lemmas.Bool.Decides.{nat_tests}
-use Rattle.std.proofs.lemmas.List.{length-drop, take_all, drop_all, length-replicate}
+use Rattle.std.proofs.lemmas.List.{drop_all, length-replicate}
 use Rattle.std.specs.List.{fold}
 use Rattle.std.proofs.lemmas.List.Sums.{fold-append}
 use Rattle.std.specs.Option.{option_map, option_and_then}
-use Rattle.value_text.specs.Addresses.{is_colon, around_gap, eight_groups, with_gap, number_of_groups, gapped, grouped_of, groups_to_end, plain_groups, pieces_of}
-use Rattle.value_text.specs.Places.{groups_in, groups_behind, groups_read, if_eight, with_zeros, gap_read, zeros_between}
+use Rattle.value_text.specs.Addresses.{is_colon, around_gap, eight_groups, with_gap, number_of_groups, gapped, grouped_of}
+use Rattle.value_text.specs.Places.{groups_in, groups_behind, groups_read, if_eight, with_zeros, gap_read}
 
 abbrev pub behind_front : List ℕ → Option (List ℕ × List ℕ) → Option (List ℕ × List ℕ)
 behind_front front gap = option_map (λ p. (front ++ p.0, p.1)) gap

@@ -1,12 +1,12 @@
 -- Groups read from left to right are the groups of the pieces.
-use Rattle.std.proofs.Common.{◌≡◌, ℕ, zero, suc, ◌+◌, ◌-◌, ◌*◌, ◌^◌, ◌<◌, ◌≤◌, Bool, true, false, if◌then◌else◌, cond, not, nat_le, List, [], ◌∷◌, ◌++◌, Option, None, Some, length, take, drop, get_or, replicate, refl, ap, sym, ◌∙◌, subst, arith, ◌==◌}
+use Rattle.std.proofs.Common.{◌≡◌, ℕ, suc, ◌+◌, ◌-◌, ◌*◌, ◌^◌, ◌<◌, ◌≤◌, Bool, true, false, if◌then◌else◌, nat_le, List, [], ◌∷◌, Option, None, Some, length, take, drop, get_or, replicate, refl, ap, sym, ◌∙◌, arith}
 use Rattle.std.proofs.Math.Nat.{pow-le-pow_right}
 use Rattle.std.proofs.lemmas.Grind.{pow_more}
 use Rattle.std.proofs.lemmas.Bool.Decides.{nat_tests}
 use Rattle.std.proofs.lemmas.List.{length-drop, take_all, drop_all}
 use Rattle.std.specs.List.{position_or_len, before_first, slice_split, fold}
-use Rattle.std.specs.Option.{option_map, option_and_then, option_or}
-use Rattle.value_text.specs.Addresses.{is_colon, is_hexadecimal, digit_value, hexadecimal_behind, group_of, groups_to_end, plain_groups, pieces_of, last_groups}
+use Rattle.std.specs.Option.{option_map, option_and_then}
+use Rattle.value_text.specs.Addresses.{is_colon, group_of, groups_to_end, plain_groups}
 use Rattle.value_text.specs.Places.{one_group, groups_in, last_in, groups_behind, groups_read}
 use Rattle.value_text.proofs.CutLemmas.{from_first, other_pieces, split_first}
 

@@ -1,6 +1,6 @@
 -- A subnet is the subnet of its base and bits.
-use Rattle.std.proofs.Common.{◌≡◌, ℕ, ◌-◌, ◌%◌, ◌≤◌, ◌^◌, Bool, true, false, leb, eqb, Option, None, Some, refl, ap, sym, ◌∙◌, arith}
-use Rattle.std.proofs.lemmas.Bool.{leb-true, le-leb, eq-eqb, eqb-true}
+use Rattle.std.proofs.Common.{◌≡◌, ◌-◌, ◌%◌, ◌^◌, Bool, true, false, leb, eqb, Some, refl, ap}
+use Rattle.std.proofs.lemmas.Bool.{le-leb, eq-eqb}
 use Rattle.vast_value.specs.declared.net.Net.{Net}
 use Rattle.vast_value.specs.Nets.{net_of, net_by}
 use Rattle.vast_value.proofs.NetLemmas.{net_equal}

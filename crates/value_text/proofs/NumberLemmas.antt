@@ -1,13 +1,13 @@
 -- Digits and the numbers that they give.
-use Rattle.std.proofs.Common.{◌≡◌, ℕ, zero, suc, ◌+◌, ◌-◌, ◌*◌, ◌^◌, ◌<◌, ◌≤◌, Bool, true, false, if◌then◌else◌, cond, nat_le, List, [], ◌∷◌, Option, None, Some, length, take, drop, refl, ap, sym, ◌∙◌, arith, IfSome, subst}
+use Rattle.std.proofs.Common.{◌≡◌, ℕ, ◌+◌, ◌-◌, ◌*◌, ◌^◌, ◌<◌, ◌≤◌, true, false, if◌then◌else◌, nat_le, List, [], ◌∷◌, Option, None, Some, take, drop, refl, ap, sym, ◌∙◌, arith, subst}
 use Rattle.std.proofs.Math.Nat.{pow-le-pow_right, one-le-pow, mul-lt-mul_of_pos_right}
 use Rattle.std.proofs.lemmas.Nat.{pow-add}
 use Rattle.std.proofs.lemmas.List.{drop-drop}
-use Rattle.std.proofs.lemmas.Grind.{pow_more, common_steps}
+use Rattle.std.proofs.lemmas.Grind.{pow_more}
 use Rattle.std.proofs.lemmas.Bool.Decides.{nat_tests}
 use Rattle.std.specs.List.{position_or_len, before_first, after_first}
 use Rattle.std.specs.Option.{option_map, option_and_then}
-use Rattle.value_text.specs.Numbers.{is_digit, number_behind, number_of, if_at_most, if_i64, number_up_to, is_point, fraction_of, nanoseconds_of}
+use Rattle.value_text.specs.Numbers.{is_digit, number_behind, number_of, if_at_most, number_up_to, is_point, fraction_of, nanoseconds_of}
 
 ten_pow : (i j : ℕ) → i ≤ j → 10 ^ i ≤ 10 ^ j
 ten_pow i j h = pow-le-pow_right (omega arith) h

@@ -1,9 +1,9 @@
 -- A dotted number read from left to right is the number of its pieces.
-use Rattle.std.proofs.Common.{◌≡◌, ℕ, zero, suc, ◌+◌, ◌-◌, ◌*◌, ◌^◌, ◌<◌, ◌≤◌, Bool, true, false, if◌then◌else◌, cond, not, nat_le, List, [], ◌∷◌, Option, None, Some, length, take, drop, get_or, refl, ap, sym, ◌∙◌, subst, arith, ◌==◌}
+use Rattle.std.proofs.Common.{◌≡◌, ℕ, zero, suc, ◌+◌, ◌-◌, ◌*◌, ◌<◌, Bool, true, false, if◌then◌else◌, nat_le, List, [], ◌∷◌, Option, None, Some, length, drop, get_or, refl, ap, sym, ◌∙◌, arith}
 use Rattle.std.proofs.lemmas.Bool.Decides.{nat_tests}
-use Rattle.std.specs.List.{position_or_len, before_first, slice_split, onto_first}
+use Rattle.std.specs.List.{before_first, slice_split}
 use Rattle.std.specs.Option.{option_map, option_and_then}
-use Rattle.value_text.specs.Numbers.{is_digit, is_point, number_behind, number_of, number_up_to, if_at_most}
+use Rattle.value_text.specs.Numbers.{is_digit, is_point, number_behind, number_of, if_at_most}
 use Rattle.value_text.specs.Addresses.{short_number, octets, dotted_of}
 use Rattle.value_text.specs.Places.{octet_behind, octet_at, octet_and_point, behind_one, at_end, last_octet, dotted_at}
 use Rattle.value_text.proofs.CutLemmas.{from_first, other_pieces, before-yes, before-no, from-yes, from-no, split_first}

@@ -134,21 +134,26 @@ fn part_of(text: &[u8]) -> Option<u64>
     }
 }
 
-fn nanoseconds(day: i64, second: u32, part: u64) -> Option<i64>
+fn nanoseconds(day: i64, second: u32, part: u64) -> i128
     requires day { IsEpochDay day }
     requires second { second < 86400 }
     requires part { part < 10 ^ 9 }
-    ensures { result ≡ if_i64_range (nanoseconds day second part) }
+    ensures { result ≡ nanoseconds day second part }
 {
     let seconds = day * DAY + second as i64;
-    let sum = seconds as i128 * 1_000_000_000 + part as i128;
-    if sum < i64::MIN as i128 {
+    seconds as i128 * 1_000_000_000 + part as i128
+}
+
+fn if_i64_range(number: i128) -> Option<i64>
+    ensures { result ≡ if_i64_range number }
+{
+    if number < i64::MIN as i128 {
         return None;
     }
-    if sum > i64::MAX as i128 {
+    if number > i64::MAX as i128 {
         return None;
     }
-    Some(sum as i64)
+    Some(number as i64)
 }
 
 fn plain_moment(text: &[u8]) -> Option<i64>
@@ -161,7 +166,7 @@ fn plain_moment(text: &[u8]) -> Option<i64>
     let second = second_of(text)?;
     let (_, rest) = text.split_at(19);
     let part = part_of(rest)?;
-    nanoseconds(day, second, part)
+    if_i64_range(nanoseconds(day, second, part))
 }
 
 #[tactic(auto, unfolding(crate::specs::Literals::moment_of))]

@@ -1,6 +1,5 @@
-use Rattle.std.proofs.Common.{◌≡◌, ◌∙◌, sym, arith}
-use Rattle.std.proofs.lemmas.Grind.{common_steps}
-use Rattle.value_text.proofs.GapLemmas.{gap_step, gap_here, gap_none, behind_none}
+use Rattle.std.proofs.Common.{◌∙◌, sym, arith}
+use Rattle.value_text.proofs.GapLemmas.{gap_step, gap_none}
 use Rattle.value_text.proofs.addresses.around_gap.Goals as goal
 
 pub loop-at-preserved : goal.loop-at-preserved

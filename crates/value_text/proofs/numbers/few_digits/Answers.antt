@@ -1,4 +1,4 @@
-use Rattle.std.proofs.Common.{ℕ, ◌≡◌, ◌<◌, ◌^◌, ◌*◌, ◌+◌, ◌-◌, arith, true, get_or}
+use Rattle.std.proofs.Common.{◌≡◌, arith, true, get_or}
 use Rattle.value_text.specs.Numbers.{is_digit}
 use Rattle.value_text.proofs.NumberLemmas.{digit_fits}
 use Rattle.value_text.proofs.numbers.few_digits.Goals as goal

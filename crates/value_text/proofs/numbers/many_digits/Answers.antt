@@ -1,4 +1,4 @@
-use Rattle.std.proofs.Common.{◌≡◌, ℕ, ◌+◌, suc, ◌<◌, List, ◌∷◌, None, Option, drop, length, get_or, arith, drop-cons, ap, ◌∙◌, sym}
+use Rattle.std.proofs.Common.{◌≡◌, suc, ◌<◌, ◌∷◌, drop, length, get_or, arith, drop-cons, ap, ◌∙◌, sym}
 use Rattle.std.specs.Option.{option_and_then}
 use Rattle.value_text.specs.Numbers.{if_at_most, number_behind}
 use Rattle.value_text.proofs.NumberLemmas.{digit_too_large}

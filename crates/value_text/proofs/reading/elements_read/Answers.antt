@@ -1,9 +1,8 @@
-use Rattle.std.proofs.Common.{◌≡◌, ◌+◌, ◌∙◌, ◌<◌, ◌≤◌, ◌^◌, length, drop, refl, sym, ap, arith, Some, []}
-use Rattle.std.proofs.lemmas.List.{length-drop, length-take}
-use Rattle.std.specs.Option.{option_and_then}
+use Rattle.std.proofs.Common.{◌≡◌, ◌∙◌, ◌<◌, ◌≤◌, length, drop, refl, sym, ap, arith, Some, []}
+use Rattle.std.proofs.lemmas.List.{length-drop}
 use Rattle.std.specs.List.{slice_split}
 use Rattle.value_text.specs.Reading.{element_read, elements_read}
-use Rattle.value_text.proofs.ElementLemmas.{element_step, element_last, fails_by, put_step, put_last, is_separator, put_front}
+use Rattle.value_text.proofs.ElementLemmas.{element_step, element_last, fails_by, put_step, put_last, is_separator}
 use Rattle.value_text.proofs.reading.elements_read.Goals as goal
 
 pub returns-in-Err-clause-value : goal.returns-in-Err-clause-value
