@@ -2,3 +2,4 @@ pub mod Addresses
 pub mod Escapes
 pub mod Numbers
 pub mod Reading
+pub mod Writing

@@ -8,3 +8,13 @@ mod marks;
 
 pub use end::CellEnd;
 pub use marks::Marks;
+
+mod place;
+mod run;
+mod write_addresses;
+mod write_numbers;
+mod write_texts;
+mod writing;
+
+pub use write_texts::write_escaped;
+pub use writing::write_cell;
