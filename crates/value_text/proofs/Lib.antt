@@ -1,2 +1,3 @@
 pub mod Bare
 pub mod Fronts
+pub mod WritingNumbers
