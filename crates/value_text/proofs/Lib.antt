@@ -1,3 +1,4 @@
 pub mod Bare
 pub mod Fronts
 pub mod WritingNumbers
+pub mod WritingTexts
