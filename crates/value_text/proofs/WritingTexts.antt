@@ -1,9 +1,9 @@
 -- Texts that were written are read again.
 use Rattle.std.proofs.Common.{◌≡◌, ℕ, zero, suc, ◌+◌, ◌-◌, ◌*◌, ◌/◌, ◌%◌, ◌^◌, ◌<◌, ◌≤◌, Bool, true, false, not, ◌&&◌, ◌||◌, cond, ltb, leb, eqb, List, [], ◌∷◌, ◌++◌, length, refl, ap, sym, ◌∙◌, subst, append_assoc, arith, inl, inr}
-use Rattle.std.specs.Prelude.{codes}
+use Rattle.std.specs.Prelude.{codes, ◌==◌}
 use Rattle.std.specs.List.{list_all, flat_map}
 use Rattle.std.specs.Str.{bytes_eq}
-use Rattle.std.proofs.lemmas.Bool.{cases_Bool, cond-true, cond-false, le-leb, lt-leb, lt-ltb, le-ltb, ltb-true, ltb-false, eqb-true, eqb-false, cases_lt, false_from_ne_true, true≢false, and_parts}
+use Rattle.std.proofs.lemmas.Bool.{cases_Bool, cond-true, cond-false, le-leb, lt-leb, lt-ltb, le-ltb, ltb-true, ltb-false, eqb-true, eqb-false, ne_eqb, cases_lt, false_from_ne_true, true≢false, and_parts}
 use Rattle.std.proofs.lemmas.Grind.{common_steps}
 use Rattle.std.proofs.lemmas.Slice.Eq.{bytes_eq-Decides}
 use Rattle.vast_value.specs.Fit.{is_byte}
@@ -64,3 +64,82 @@ bytes_again place [] h = refl
 bytes_again place (b ∷ bs) h =
     let a = both (is_byte b) (list_all is_byte bs) h in
     byte_again place b (flat_map (byte_text place) bs) (ltb-true b 256 a.0) ∙ ap (λ (x : List ℕ). b ∷ x) (bytes_again place bs a.1)
+
+-- Whole texts
+
+abbrev dash : List ℕ
+dash = codes "-"
+
+abbrev empty : List ℕ
+empty = codes "(empty)"
+
+-- text_text by its three cases
+dash_text : (place : Place) (t : List ℕ) → bytes_eq t dash ≡ true → text_text place t ≡ codes "\\x2d"
+dash_text place t h = rw h refl
+
+empty_text : (place : Place) (t : List ℕ) → bytes_eq t dash ≡ false → bytes_eq t empty ≡ true → text_text place t ≡ codes "\\x28empty)"
+empty_text place t h k = rw (h, k) refl
+
+other_text : (place : Place) (t : List ℕ) → bytes_eq t dash ≡ false → bytes_eq t empty ≡ false → text_text place t ≡ flat_map (byte_text place) t
+other_text place t h k = rw (h, k) refl
+
+pub text_again : (place : Place) (t : List ℕ) → list_all is_byte t ≡ true → unescaped (text_text place t) ≡ t
+text_again place t h = elim (cases_Bool (bytes_eq t dash)) [
+    inl is ↦ ap unescaped (dash_text place t is) ∙ sym ((bytes_eq-Decides t dash).0 is)
+    | inr other ↦ elim (cases_Bool (bytes_eq t empty)) [
+        inl is ↦ ap unescaped (empty_text place t other is) ∙ sym ((bytes_eq-Decides t empty).0 is)
+        | inr neither ↦ ap unescaped (other_text place t other neither) ∙ bytes_again place t h ] ]
+
+-- an escape that is some text which escapes leave alone is an escape of that text
+apart : (place : Place) (t text : List ℕ) → list_all is_byte t ≡ true → unescaped text ≡ text → bytes_eq t text ≡ false → bytes_eq (flat_map (byte_text place) t) text ≡ false
+apart place t text h same differ = false_from_ne_true (bytes_eq (flat_map (byte_text place) t) text) (λ is.
+    let e = (bytes_eq-Decides (flat_map (byte_text place) t) text).0 is in
+    let back : t ≡ text = sym (bytes_again place t h) ∙ (ap unescaped e ∙ same) in
+    true≢false (sym ((bytes_eq-Decides t text).1 back) ∙ differ))
+
+pub text_no_dash : (place : Place) (t : List ℕ) → list_all is_byte t ≡ true → bytes_eq (text_text place t) dash ≡ false
+text_no_dash place t h = elim (cases_Bool (bytes_eq t dash)) [
+    inl is ↦ ap (λ (x : List ℕ). bytes_eq x dash) (dash_text place t is)
+    | inr other ↦ elim (cases_Bool (bytes_eq t empty)) [
+        inl is ↦ ap (λ (x : List ℕ). bytes_eq x dash) (empty_text place t other is)
+        | inr neither ↦ ap (λ (x : List ℕ). bytes_eq x dash) (other_text place t other neither) ∙ apart place t dash h refl other ] ]
+
+pub text_no_empty : (place : Place) (t : List ℕ) → list_all is_byte t ≡ true → bytes_eq (text_text place t) empty ≡ false
+text_no_empty place t h = elim (cases_Bool (bytes_eq t dash)) [
+    inl is ↦ ap (λ (x : List ℕ). bytes_eq x empty) (dash_text place t is)
+    | inr other ↦ elim (cases_Bool (bytes_eq t empty)) [
+        inl is ↦ ap (λ (x : List ℕ). bytes_eq x empty) (empty_text place t other is)
+        | inr neither ↦ ap (λ (x : List ℕ). bytes_eq x empty) (other_text place t other neither) ∙ apart place t empty h refl neither ] ]
+
+-- Commas
+
+abbrev pub no_comma : ℕ → Bool
+no_comma b = not (b == 44)
+
+digit_no_comma : (d : ℕ) → no_comma (hexadecimal d) ≡ true
+digit_no_comma d = elim (cases_lt d 10) [
+    inl low ↦ rw (lt-ltb d 10 low, ne_eqb (48 + d) 44 (λ e. omega arith)) refl
+    | inr high ↦ rw (le-ltb d 10 high, ne_eqb (87 + d) 44 (λ e. omega arith)) refl ]
+
+escape_no_comma : (b : ℕ) → list_all no_comma (byte_escape b) ≡ true
+escape_no_comma b = rw (digit_no_comma (b / 16), digit_no_comma (b % 16)) refl
+
+byte_no_comma : (b : ℕ) → list_all no_comma (byte_text place.Element b) ≡ true
+byte_no_comma b = elim (cases_Bool (eqb b 44)) [
+    inl is ↦ rw is (escape_no_comma b)
+    | inr other ↦ elim (cases_Bool (eqb b 92)) [
+        inl is ↦ rw (other, is) refl
+        | inr plain ↦ elim (cases_Bool (ltb b 32 || leb 127 b)) [
+            inl hidden ↦ rw (other, plain, hidden) (escape_no_comma b)
+            | inr shown ↦ rw (other, plain, shown, other) refl ] ] ]
+
+bytes_no_comma : (t : List ℕ) → list_all no_comma (flat_map (byte_text place.Element) t) ≡ true
+bytes_no_comma [] = refl
+bytes_no_comma (b ∷ bs) = all_append no_comma (byte_text place.Element b) (flat_map (byte_text place.Element) bs) (byte_no_comma b) (bytes_no_comma bs)
+
+pub text_no_comma : (t : List ℕ) → list_all no_comma (text_text place.Element t) ≡ true
+text_no_comma t = elim (cases_Bool (bytes_eq t dash)) [
+    inl is ↦ ap (list_all no_comma) (dash_text place.Element t is)
+    | inr other ↦ elim (cases_Bool (bytes_eq t empty)) [
+        inl is ↦ ap (list_all no_comma) (empty_text place.Element t other is)
+        | inr neither ↦ ap (list_all no_comma) (other_text place.Element t other neither) ∙ bytes_no_comma t ] ]
