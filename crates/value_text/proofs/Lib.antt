@@ -1,4 +1,5 @@
 pub mod Bare
 pub mod Fronts
+pub mod WritingDotted
 pub mod WritingNumbers
 pub mod WritingTexts

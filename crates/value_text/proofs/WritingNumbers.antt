@@ -18,6 +18,10 @@ both true true h = (refl, refl)
 both true false h = absurd cc
 both false b h = absurd cc
 
+pub not_true : (b : Bool) → not b ≡ true → b ≡ false
+not_true true h = absurd cc
+not_true false h = refl
+
 pub all_append : {X : Type 0} (p : X → Bool) (xs ys : List X) → list_all p xs ≡ true → list_all p ys ≡ true → list_all p (xs ++ ys) ≡ true
 all_append p [] ys h k = k
 all_append p (x ∷ xs) ys h k = let a = both (p x) (list_all p xs) h in rw (a.0, all_append p xs ys a.1 k) refl
