@@ -12,7 +12,7 @@ use Rattle.value_text.specs.Addresses.{short_number, octets, dotted_of}
 use Rattle.value_text.specs.Writing.{octets_of, dotted_text}
 use Rattle.value_text.proofs.WritingNumbers.{both, not_true, all_append, all_weaker, up_to_again, decimal_all, decimal_digits}
 
-split_none : (p : ℕ → Bool) (xs : List ℕ) → list_all (λ b. not (p b)) xs ≡ true → slice_split p xs ≡ xs ∷ []
+pub split_none : (p : ℕ → Bool) (xs : List ℕ) → list_all (λ b. not (p b)) xs ≡ true → slice_split p xs ≡ xs ∷ []
 split_none p [] h = refl
 split_none p (x ∷ xs) h =
     let a = both (not (p x)) (list_all (λ b. not (p b)) xs) h in
