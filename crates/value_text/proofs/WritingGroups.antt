@@ -79,3 +79,108 @@ module _ (p : ℕ → Bool) (low : (b : ℕ) → 48 ≤ b → b ≤ 57 → p b �
   pub joined_passes : p 58 ≡ true → (gs : List ℕ) → list_all is_group gs ≡ true → list_all p (joined_groups gs) ≡ true
   joined_passes k [] h = refl
   joined_passes k (g ∷ gs) h = joined_all p 58 group_text k g gs (groups_pass (g ∷ gs) h)
+
+-- Groups between colons
+
+not_colon_low : (b : ℕ) → 48 ≤ b → b ≤ 57 → not (is_colon b) ≡ true
+not_colon_low b low high = rw (ne_eqb b 58 (λ e. omega arith)) refl
+
+not_colon_high : (b : ℕ) → 97 ≤ b → b ≤ 102 → not (is_colon b) ≡ true
+not_colon_high b low high = rw (ne_eqb b 58 (λ e. omega arith)) refl
+
+abbrev no_colon : List ℕ → Bool
+no_colon text = list_all (λ b. not (is_colon b)) text
+
+group_no_colon : (g : ℕ) → is_group g ≡ true → no_colon (group_text g) ≡ true
+group_no_colon g h = group_passes (λ b. not (is_colon b)) not_colon_low not_colon_high g (ltb-true g 65536 h)
+
+pieces_full : (n : ℕ) (xs rest : List ℕ) → group_of xs ≡ Some n → pieces_of (xs ++ rest) ≡ slice_split is_colon (xs ++ rest)
+pieces_full n [] rest h = absurd cc
+pieces_full n (x ∷ xs) rest h = refl
+
+pieces_again : (g : ℕ) (gs : List ℕ) → list_all is_group (g ∷ gs) ≡ true → pieces_of (joined_groups (g ∷ gs)) ≡ map group_text (g ∷ gs)
+pieces_again g gs h =
+    let a = both (is_group g) (list_all is_group gs) h in
+    pieces_full g (group_text g) (flat_map (λ y. (58 ∷ []) ++ group_text y) gs) (group_again g (ltb-true g 65536 a.0))
+    ∙ split_joined is_colon 58 group_text refl g gs (groups_pass (λ b. not (is_colon b)) not_colon_low not_colon_high (g ∷ gs) h)
+
+plain_map : (gs : List ℕ) → list_all is_group gs ≡ true → plain_groups (map group_text gs) ≡ Some gs
+plain_map [] h = refl
+plain_map (g ∷ gs) h =
+    let a = both (is_group g) (list_all is_group gs) h in
+    rw (group_again g (ltb-true g 65536 a.0), plain_map gs a.1) refl
+
+last_again : (g : ℕ) (piece : List ℕ) → group_of piece ≡ Some g → last_groups piece ≡ Some (g ∷ [])
+last_again g piece h = rw h refl
+
+end_map : (gs : List ℕ) → list_all is_group gs ≡ true → groups_to_end (map group_text gs) ≡ Some gs
+end_map [] h = refl
+end_map (g ∷ []) h = last_again g (group_text g) (group_again g (ltb-true g 65536 (both (is_group g) true h).0))
+end_map (g ∷ (next ∷ more)) h =
+    let a = both (is_group g) (list_all is_group (next ∷ more)) h in
+    ap (λ (x : Option ℕ). option_and_then (λ g. option_map (λ gs. g ∷ gs) (groups_to_end (map group_text (next ∷ more)))) x) (group_again g (ltb-true g 65536 a.0))
+    ∙ ap (λ (x : Option (List ℕ)). option_map (λ gs. g ∷ gs) x) (end_map (next ∷ more) a.1)
+
+pub plain_again : (gs : List ℕ) → list_all is_group gs ≡ true → plain_groups (pieces_of (joined_groups gs)) ≡ Some gs
+plain_again [] h = refl
+plain_again (g ∷ gs) h = ap plain_groups (pieces_again g gs h) ∙ plain_map (g ∷ gs) h
+
+pub end_again : (gs : List ℕ) → list_all is_group gs ≡ true → groups_to_end (pieces_of (joined_groups gs)) ≡ Some gs
+end_again [] h = refl
+end_again (g ∷ gs) h = ap groups_to_end (pieces_again g gs h) ∙ end_map (g ∷ gs) h
+
+-- The gap
+
+abbrev Sides : Type 0
+Sides = List ℕ × List ℕ
+
+-- what stands before the gap, with more in front
+abbrev behind : List ℕ → Sides → Sides
+behind xs p = (xs ++ p.0, p.1)
+
+one_behind : (b : ℕ) (rest : List ℕ) → is_colon b ≡ false → around_gap (b ∷ rest) ≡ option_map (behind (b ∷ [])) (around_gap rest)
+one_behind b [] h = refl
+one_behind b (c ∷ rest) h = rw h refl
+
+behind_twice : (b : ℕ) (xs : List ℕ) (o : Option Sides) → option_map (behind (b ∷ [])) (option_map (behind xs) o) ≡ option_map (behind (b ∷ xs)) o
+behind_twice b xs None = refl
+behind_twice b xs (Some p) = refl
+
+behind_nothing : (o : Option Sides) → o ≡ option_map (behind []) o
+behind_nothing None = refl
+behind_nothing (Some p) = refl
+
+gap_over_piece : (xs rest : List ℕ) → no_colon xs ≡ true → around_gap (xs ++ rest) ≡ option_map (behind xs) (around_gap rest)
+gap_over_piece [] rest h = behind_nothing (around_gap rest)
+gap_over_piece (x ∷ xs) rest h =
+    let a = both (not (is_colon x)) (no_colon xs) h in
+    one_behind x (xs ++ rest) (not_true (is_colon x) a.0) ∙ (ap (option_map (behind (x ∷ []))) (gap_over_piece xs rest a.1) ∙ behind_twice x xs (around_gap rest))
+
+colon_over_piece : (n : ℕ) (xs rest : List ℕ) → group_of xs ≡ Some n → no_colon xs ≡ true → around_gap (58 ∷ (xs ++ rest)) ≡ option_map (behind (58 ∷ xs)) (around_gap rest)
+colon_over_piece n [] rest k h = absurd cc
+colon_over_piece n (x ∷ xs) rest k h =
+    let a = both (not (is_colon x)) (no_colon xs) h in
+    rw (not_true (is_colon x) a.0) (ap (option_map (behind (58 ∷ []))) (gap_over_piece (x ∷ xs) rest h) ∙ behind_twice 58 (x ∷ xs) (around_gap rest))
+
+both_behind : (xs ys : List ℕ) (o : Option Sides) → option_map (behind xs) (option_map (behind ys) o) ≡ option_map (behind (xs ++ ys)) o
+both_behind xs ys None = refl
+both_behind xs ys (Some p) = ap (λ (x : List ℕ). Some (x, p.1)) (sym (append_assoc xs ys p.0))
+
+abbrev more_groups : List ℕ → List ℕ
+more_groups gs = flat_map (λ g. (58 ∷ []) ++ group_text g) gs
+
+gap_over_more : (gs rest : List ℕ) → list_all is_group gs ≡ true → around_gap (more_groups gs ++ rest) ≡ option_map (behind (more_groups gs)) (around_gap rest)
+gap_over_more [] rest h = behind_nothing (around_gap rest)
+gap_over_more (g ∷ gs) rest h =
+    let a = both (is_group g) (list_all is_group gs) h in
+    ap (λ (x : List ℕ). around_gap (58 ∷ x)) (append_assoc (group_text g) (more_groups gs) rest)
+    ∙ (colon_over_piece g (group_text g) (more_groups gs ++ rest) (group_again g (ltb-true g 65536 a.0)) (group_no_colon g a.0)
+    ∙ (ap (option_map (behind (58 ∷ group_text g))) (gap_over_more gs rest a.1) ∙ both_behind (58 ∷ group_text g) (more_groups gs) (around_gap rest)))
+
+pub gap_over : (gs rest : List ℕ) → list_all is_group gs ≡ true → around_gap (joined_groups gs ++ rest) ≡ option_map (behind (joined_groups gs)) (around_gap rest)
+gap_over [] rest h = behind_nothing (around_gap rest)
+gap_over (g ∷ gs) rest h =
+    let a = both (is_group g) (list_all is_group gs) h in
+    ap around_gap (append_assoc (group_text g) (more_groups gs) rest)
+    ∙ (gap_over_piece (group_text g) (more_groups gs ++ rest) (group_no_colon g a.0)
+    ∙ (ap (option_map (behind (group_text g))) (gap_over_more gs rest a.1) ∙ both_behind (group_text g) (more_groups gs) (around_gap rest)))
