@@ -1,6 +1,7 @@
 pub mod Bare
 pub mod Fronts
 pub mod WritingAddresses
+pub mod WritingCells
 pub mod WritingDotted
 pub mod WritingGroups
 pub mod WritingNumbers

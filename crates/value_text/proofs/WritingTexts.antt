@@ -28,7 +28,7 @@ digit_again d h = elim (cases_lt d 10) [
 
 -- One byte
 
-other_again : (b : ℕ) (rest : List ℕ) → eqb b 92 ≡ false → unescaped (b ∷ rest) ≡ b ∷ unescaped rest
+pub other_again : (b : ℕ) (rest : List ℕ) → eqb b 92 ≡ false → unescaped (b ∷ rest) ≡ b ∷ unescaped rest
 other_again b [] h = refl
 other_again b (c ∷ []) h = rw h refl
 other_again b (c ∷ (d ∷ [])) h = rw h refl

@@ -1,13 +1,14 @@
 -- What values and cells are written as.
 use Rattle.std.specs.Prelude.{◌≡◌, ℕ, suc, zero, ℤ, pos, negsuc, ◌+◌, ◌-◌, ◌*◌, ◌/◌, ◌%◌, ◌^◌, Bool, true, false, not, ◌&&◌, ◌||◌, ◌==◌, if◌then◌else◌, List, [], ◌∷◌, ◌++◌, Option, None, Some, length, take, drop, map, nat_le, nat_lt, codes}
 use Rattle.std.specs.Fmt.{decimal, signed_decimal}
-use Rattle.std.specs.List.{flat_map, join_by, prefix_len}
+use Rattle.std.specs.List.{flat_map, join_by, list_all, prefix_len}
 use Rattle.std.specs.Str.{bytes_eq}
 use Rattle.vast_value.specs.declared.net.Net.{Net}
 use Rattle.vast_value.specs.declared.value.Value.{Value}
 use Rattle.vast_value.specs.declared.value.Value.TheVariants as value
 use Rattle.vast_value.specs.declared.cell.Cell.{Cell}
 use Rattle.vast_value.specs.declared.cell.Cell.TheVariants as cell
+use Rattle.vast_value.specs.Fit.{is_byte, is_i64}
 use Rattle.value_text.specs.declared.marks.Marks.{Marks}
 use Rattle.value_text.specs.declared.run.Run.{Run}
 use Rattle.value_text.specs.declared.place.Place.{Place}
@@ -168,6 +169,29 @@ cell_text cell.Unset = codes "-"
 cell_text (cell.One v) = if is_empty_value v then codes "(empty)" else value_text place.Whole v
 cell_text (cell.Many []) = codes "(empty)"
 cell_text (cell.Many (x ∷ xs)) = join_by element_text (44 ∷ []) (x ∷ xs)
+
+-- What is true of every value that a program keeps, tested so that it is known wherever a cell is written
+
+abbrev pub is_ranged : Value → Bool
+is_ranged (value.Bool b) = true
+is_ranged (value.Count n) = nat_lt n (2 ^ 64)
+is_ranged (value.Int z) = is_i64 z
+is_ranged (value.Time z) = is_i64 z
+is_ranged (value.Span z) = is_i64 z
+is_ranged (value.Text t) = list_all is_byte t
+is_ranged (value.Name t) = list_all is_byte t
+is_ranged (value.Addr a) = nat_lt a (2 ^ 128)
+is_ranged (value.Subnet n) = nat_lt n.base (2 ^ 128)
+is_ranged (value.Port p) = nat_lt p (2 ^ 16)
+
+abbrev pub is_ranged_element : Option Value → Bool
+is_ranged_element None = true
+is_ranged_element (Some v) = is_ranged v
+
+abbrev pub is_ranged_cell : Cell → Bool
+is_ranged_cell cell.Unset = true
+is_ranged_cell (cell.One v) = is_ranged v
+is_ranged_cell (cell.Many items) = list_all is_ranged_element items
 
 -- What a call that fails in the middle leaves: the text begins with what it was before.
 pub record BeginsWith (now before : List ℕ) : Type 0 where
