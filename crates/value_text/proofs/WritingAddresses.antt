@@ -28,10 +28,16 @@ number_again a h =
 
 are_groups : (a : ℕ) → list_all is_group (groups_of a) ≡ true
 are_groups a =
-    rw (lt-ltb (a / 2 ^ 112 % 2 ^ 16) 65536 (omega arith), lt-ltb (a / 2 ^ 96 % 2 ^ 16) 65536 (omega arith),
-    lt-ltb (a / 2 ^ 80 % 2 ^ 16) 65536 (omega arith), lt-ltb (a / 2 ^ 64 % 2 ^ 16) 65536 (omega arith),
-    lt-ltb (a / 2 ^ 48 % 2 ^ 16) 65536 (omega arith), lt-ltb (a / 2 ^ 32 % 2 ^ 16) 65536 (omega arith),
-    lt-ltb (a / 2 ^ 16 % 2 ^ 16) 65536 (omega arith), lt-ltb (a % 2 ^ 16) 65536 (omega arith)) refl
+    rw (
+      lt-ltb (a / 2 ^ 112 % 2 ^ 16) 65536 (omega arith),
+      lt-ltb (a / 2 ^ 96 % 2 ^ 16) 65536 (omega arith),
+      lt-ltb (a / 2 ^ 80 % 2 ^ 16) 65536 (omega arith),
+      lt-ltb (a / 2 ^ 64 % 2 ^ 16) 65536 (omega arith),
+      lt-ltb (a / 2 ^ 48 % 2 ^ 16) 65536 (omega arith),
+      lt-ltb (a / 2 ^ 32 % 2 ^ 16) 65536 (omega arith),
+      lt-ltb (a / 2 ^ 16 % 2 ^ 16) 65536 (omega arith),
+      lt-ltb (a % 2 ^ 16) 65536 (omega arith),
+    ) refl
 
 -- The run
 
@@ -45,11 +51,12 @@ record IsRun (at : ℕ) (gs : List ℕ) (run : Run) : Type 0 where
 zeros_whole : (gs : List ℕ) → replicate (prefix_len is_zero gs) 0 ++ drop (prefix_len is_zero gs) gs ≡ gs
 zeros_whole [] = refl
 zeros_whole (g ∷ gs) = elim (cases_Bool (is_zero g)) [
-    inl zero_group ↦
-        let one : 1 + prefix_len is_zero gs ≡ suc (prefix_len is_zero gs) = omega arith in
-        let is : g ≡ 0 = eqb-true g 0 zero_group in
-        rw (zero_group, one, zeros_whole gs) (ap (λ (x : ℕ). x ∷ gs) (sym is))
-    | inr other ↦ rw other refl ]
+  | inl zero_group ↦
+      let one : 1 + prefix_len is_zero gs ≡ suc (prefix_len is_zero gs) = omega arith in
+      let is : g ≡ 0 = eqb-true g 0 zero_group in
+      rw (zero_group, one, zeros_whole gs) (ap (λ (x : ℕ). x ∷ gs) (sym is))
+  | inr other ↦ rw other refl
+]
 
 zeros_fit : (gs : List ℕ) → prefix_len is_zero gs ≤ length gs
 zeros_fit gs = prefix_len-le-length is_zero gs
@@ -106,19 +113,20 @@ filled gs left right count n some whole =
 
 gapped_again : (run : Run) (gs : List ℕ) → IsRun 0 gs run → length gs ≡ 8 → list_all is_group gs ≡ true → grouped_of (gapped_text run gs) ≡ Some (number_of_groups gs)
 gapped_again run gs r n h = elim (cases_Bool (leb 2 run.count)) [
-    inl gap ↦
-        let at : run.start ≡ r.before = omega (arith, r.start) in
-        let fits : r.before + run.count ≤ length gs = r.fits in
-        let two : 2 ≤ run.count = leb-true 2 run.count gap in
-        let left = take run.start gs in
-        let right = drop (run.start + run.count) gs in
-        let left_is : length left ≡ run.start = length-take-le run.start gs (omega arith) in
-        let right_is : length right ≡ length gs - (run.start + run.count) = length-drop (run.start + run.count) gs in
-        let whole : left ++ (replicate run.count 0 ++ right) ≡ gs = rw at r.whole in
-        ap grouped_of (cond-true (leb 2 run.count) (around left right) (joined_groups gs) gap)
-        ∙ (around_again left right (all_take is_group run.start gs h) (all_drop is_group (run.start + run.count) gs h)
-        ∙ filled gs left right run.count (omega arith) (omega arith) whole)
-    | inr none ↦ ap grouped_of (cond-false (leb 2 run.count) (around (take run.start gs) (drop (run.start + run.count) gs)) (joined_groups gs) none) ∙ plain_text_again gs n h ]
+  | inl gap ↦
+      let at : run.start ≡ r.before = omega (arith, r.start) in
+      let fits : r.before + run.count ≤ length gs = r.fits in
+      let two : 2 ≤ run.count = leb-true 2 run.count gap in
+      let left = take run.start gs in
+      let right = drop (run.start + run.count) gs in
+      let left_is : length left ≡ run.start = length-take-le run.start gs (omega arith) in
+      let right_is : length right ≡ length gs - (run.start + run.count) = length-drop (run.start + run.count) gs in
+      let whole : left ++ (replicate run.count 0 ++ right) ≡ gs = rw at r.whole in
+      ap grouped_of (cond-true (leb 2 run.count) (around left right) (joined_groups gs) gap)
+      ∙ (around_again left right (all_take is_group run.start gs h) (all_drop is_group (run.start + run.count) gs h)
+      ∙ filled gs left right run.count (omega arith) (omega arith) whole)
+  | inr none ↦ ap grouped_of (cond-false (leb 2 run.count) (around (take run.start gs) (drop (run.start + run.count) gs)) (joined_groups gs) none) ∙ plain_text_again gs n h
+]
 
 pub grouped_again : (a : ℕ) → a < 2 ^ 128 → grouped_of (grouped_text (groups_of a)) ≡ Some a
 unfolding grouped_text
@@ -130,10 +138,11 @@ grouped_again a h =
 module _ (p : ℕ → Bool) (low : (b : ℕ) → 48 ≤ b → b ≤ 57 → p b ≡ true) (high : (b : ℕ) → 97 ≤ b → b ≤ 102 → p b ≡ true) (colon : p 58 ≡ true) where
   gapped_passes : (run : Run) (gs : List ℕ) → list_all is_group gs ≡ true → list_all p (gapped_text run gs) ≡ true
   gapped_passes run gs h = elim (leb 2 run.count) as (λ t. list_all p (cond t (around (take run.start gs) (drop (run.start + run.count) gs)) (joined_groups gs)) ≡ true) [
-      true ↦ all_append p (joined_groups (take run.start gs)) (58 ∷ (58 ∷ joined_groups (drop (run.start + run.count) gs)))
-          (joined_passes p low high colon (take run.start gs) (all_take is_group run.start gs h))
-          (rw (colon, joined_passes p low high colon (drop (run.start + run.count) gs) (all_drop is_group (run.start + run.count) gs h)) refl)
-      | false ↦ joined_passes p low high colon gs h ]
+    | true ↦ all_append p (joined_groups (take run.start gs)) (58 ∷ (58 ∷ joined_groups (drop (run.start + run.count) gs)))
+        (joined_passes p low high colon (take run.start gs) (all_take is_group run.start gs h))
+        (rw (colon, joined_passes p low high colon (drop (run.start + run.count) gs) (all_drop is_group (run.start + run.count) gs h)) refl)
+    | false ↦ joined_passes p low high colon gs h
+  ]
 
   pub grouped_passes : (a : ℕ) → list_all p (grouped_text (groups_of a)) ≡ true
   unfolding grouped_text
@@ -141,8 +150,9 @@ module _ (p : ℕ → Bool) (low : (b : ℕ) → 48 ≤ b → b ≤ 57 → p b �
 
   pub address_passes : p 46 ≡ true → (a : ℕ) → list_all p (address_text a) ≡ true
   address_passes point a = elim (is_mapped a) as (λ t. list_all p (cond t (dotted_text (a % 2 ^ 32)) (grouped_text (groups_of a))) ≡ true) [
-      true ↦ dotted_all p low point (a % 2 ^ 32)
-      | false ↦ grouped_passes a ]
+    | true ↦ dotted_all p low point (a % 2 ^ 32)
+    | false ↦ grouped_passes a
+  ]
 
 -- Whole addresses
 
@@ -161,9 +171,10 @@ mapped_again a h = let e = eqb-true (a / 2 ^ 32) 65535 h in omega (arith, e)
 
 pub address_again : (a : ℕ) → a < 2 ^ 128 → address_of (address_text a) ≡ Some a
 address_again a h = elim (cases_Bool (is_mapped a)) [
-    inl v4 ↦
-        ap address_of (cond-true (is_mapped a) (dotted_text (a % 2 ^ 32)) (grouped_text (groups_of a)) v4)
-        ∙ (rw (dotted_again (a % 2 ^ 32) (omega arith)) (ap (λ (x : ℕ). Some x) (mapped_again a v4)))
-    | inr v6 ↦
-        ap address_of (cond-false (is_mapped a) (dotted_text (a % 2 ^ 32)) (grouped_text (groups_of a)) v6)
-        ∙ (rw (grouped_no_dots a, grouped_again a h) refl) ]
+  | inl v4 ↦
+      ap address_of (cond-true (is_mapped a) (dotted_text (a % 2 ^ 32)) (grouped_text (groups_of a)) v4)
+      ∙ (rw (dotted_again (a % 2 ^ 32) (omega arith)) (ap (λ (x : ℕ). Some x) (mapped_again a v4)))
+  | inr v6 ↦
+      ap address_of (cond-false (is_mapped a) (dotted_text (a % 2 ^ 32)) (grouped_text (groups_of a)) v6)
+      ∙ (rw (grouped_no_dots a, grouped_again a h) refl)
+]

@@ -47,7 +47,9 @@ last_passes p f (suc k) n = rw (f (48 + n / 10 ^ k % 10) (omega arith) (omega ar
 
 fraction_passes : (p : ℕ → Bool) → ((b : ℕ) → 48 ≤ b → b ≤ 57 → p b ≡ true) → (n : ℕ) → list_all p (fraction_text n) ≡ true
 fraction_passes p f n = elim (eqb (n % 1000) 0) as (λ t. list_all p (cond t (last_digits 6 (n / 1000)) (last_digits 9 n)) ≡ true) [
-    true ↦ last_passes p f 6 (n / 1000) | false ↦ last_passes p f 9 n ]
+  | true ↦ last_passes p f 6 (n / 1000)
+  | false ↦ last_passes p f 9 n
+]
 
 seconds_passes : (n : ℕ) → n < 2 ^ 64 → list_all is_clean (seconds_text n) ≡ true
 seconds_passes n h = all_append is_clean (decimal (n / 10 ^ 9)) (46 ∷ fraction_text (n % 10 ^ 9)) (decimal_all is_clean clean_low (n / 10 ^ 9) (omega arith)) (fraction_passes is_clean clean_low (n % 10 ^ 9))
@@ -174,18 +176,21 @@ text_case_comma (value.Port p) k = absurd cc
 
 value_no_dash : (place : Place) (v : Value) → is_ranged v ≡ true → bytes_eq (value_text place v) (codes "-") ≡ false
 value_no_dash place v h = elim (cases_Bool (is_text (elem_of v))) [
-    inl text ↦ text_case place v h text
-    | inr plain ↦ apart (elem_of v) v (value_text place v) (codes "-") (plain_again place v h plain) (dash_unread (elem_of v) plain) ]
+  | inl text ↦ text_case place v h text
+  | inr plain ↦ apart (elem_of v) v (value_text place v) (codes "-") (plain_again place v h plain) (dash_unread (elem_of v) plain)
+]
 
 value_no_empty : (place : Place) (v : Value) → is_ranged v ≡ true → bytes_eq (value_text place v) (codes "(empty)") ≡ false
 value_no_empty place v h = elim (cases_Bool (is_text (elem_of v))) [
-    inl text ↦ text_case_empty place v h text
-    | inr plain ↦ apart (elem_of v) v (value_text place v) (codes "(empty)") (plain_again place v h plain) (empty_unread (elem_of v) plain) ]
+  | inl text ↦ text_case_empty place v h text
+  | inr plain ↦ apart (elem_of v) v (value_text place v) (codes "(empty)") (plain_again place v h plain) (empty_unread (elem_of v) plain)
+]
 
 value_no_comma : (v : Value) → is_ranged v ≡ true → list_all no_comma (value_text place.Element v) ≡ true
 value_no_comma v h = elim (cases_Bool (is_text (elem_of v))) [
-    inl text ↦ text_case_comma v text
-    | inr plain ↦ all_weaker is_clean no_comma (λ b c. (both (no_comma b) (not (eqb b 92)) c).0) (value_text place.Element v) (clean_value place.Element v h plain) ]
+  | inl text ↦ text_case_comma v text
+  | inr plain ↦ all_weaker is_clean no_comma (λ b c. (both (no_comma b) (not (eqb b 92)) c).0) (value_text place.Element v) (clean_value place.Element v h plain)
+]
 
 set_plain : (marks : Marks) (e : Elem) (raw : List ℕ) → is_text e ≡ false → set_read marks e raw ≡ value_read e (unescaped raw)
 set_plain marks e raw k = rw k refl
@@ -208,10 +213,11 @@ text_value_again place (value.Port p) h k = absurd cc
 
 set_again : (marks : Marks) (place : Place) (v : Value) → AreUsual marks → is_ranged v ≡ true → set_read marks (elem_of v) (value_text place v) ≡ Some v
 set_again marks place v u h = elim (cases_Bool (is_text (elem_of v))) [
-    inl text ↦ set_text marks (elem_of v) (value_text place v) u text (value_no_empty place v h) ∙ text_value_again place v h text
-    | inr plain ↦
-        set_plain marks (elem_of v) (value_text place v) plain
-        ∙ (ap (value_read (elem_of v)) (clean_unescaped (value_text place v) (clean_value place v h plain)) ∙ plain_again place v h plain) ]
+  | inl text ↦ set_text marks (elem_of v) (value_text place v) u text (value_no_empty place v h) ∙ text_value_again place v h text
+  | inr plain ↦
+      set_plain marks (elem_of v) (value_text place v) plain
+      ∙ (ap (value_read (elem_of v)) (clean_unescaped (value_text place v) (clean_value place v h plain)) ∙ plain_again place v h plain)
+]
 
 -- Elements
 
@@ -246,3 +252,127 @@ elements_again marks e (x ∷ xs) u k h =
 element_no_comma : (x : Option Value) → is_ranged_element x ≡ true → list_all no_comma (element_text x) ≡ true
 element_no_comma None h = refl
 element_no_comma (Some v) h = value_no_comma v h
+
+elements_no_comma : (items : List (Option Value)) → list_all is_ranged_element items ≡ true → list_all (λ x. list_all no_comma (element_text x)) items ≡ true
+elements_no_comma items h = all_weaker is_ranged_element (λ x. list_all no_comma (element_text x)) element_no_comma items h
+
+-- Containers
+
+abbrev is_comma : ℕ → Bool
+is_comma b = eqb b 44
+
+abbrev joined : List (Option Value) → List ℕ
+joined items = join_by element_text (44 ∷ []) items
+
+pieces_again : (x : Option Value) (xs : List (Option Value)) → list_all is_ranged_element (x ∷ xs) ≡ true → slice_split is_comma (joined (x ∷ xs)) ≡ map element_text (x ∷ xs)
+pieces_again x xs h = split_joined is_comma 44 element_text refl x xs (elements_no_comma (x ∷ xs) h)
+
+-- two elements are no text without a comma
+two_apart : (x y : Option Value) (ys : List (Option Value)) (text : List ℕ) → list_all is_ranged_element (x ∷ (y ∷ ys)) ≡ true → slice_split is_comma text ≡ text ∷ []
+    → bytes_eq (joined (x ∷ (y ∷ ys))) text ≡ false
+two_apart x y ys text h k = false_from_ne_true (bytes_eq (joined (x ∷ (y ∷ ys))) text) (λ is.
+    let same = (bytes_eq-Decides (joined (x ∷ (y ∷ ys))) text).0 is in
+    let pieces : element_text x ∷ (element_text y ∷ map element_text ys) ≡ text ∷ [] = sym (pieces_again x (y ∷ ys) h) ∙ (ap (slice_split is_comma) same ∙ k) in
+    cc)
+
+one_apart : (x : Option Value) (text : List ℕ) → bytes_eq (element_text x) text ≡ false → bytes_eq (joined (x ∷ [])) text ≡ false
+one_apart x text h = ap (λ (raw : List ℕ). bytes_eq raw text) (append-nil (element_text x)) ∙ h
+
+joined_no_dash : (items : List (Option Value)) → is_lone_unset items ≡ false → list_all is_ranged_element items ≡ true → bytes_eq (joined items) (codes "-") ≡ false
+joined_no_dash [] k h = refl
+joined_no_dash (None ∷ []) k h = absurd cc
+joined_no_dash (Some v ∷ []) k h = one_apart (Some v) (codes "-") (value_no_dash place.Element v (both (is_ranged v) true h).0)
+joined_no_dash (None ∷ (y ∷ ys)) k h = two_apart None y ys (codes "-") h refl
+joined_no_dash (Some v ∷ (y ∷ ys)) k h = two_apart (Some v) y ys (codes "-") h refl
+
+joined_no_empty : (items : List (Option Value)) → list_all is_ranged_element items ≡ true → bytes_eq (joined items) (codes "(empty)") ≡ false
+joined_no_empty [] h = refl
+joined_no_empty (None ∷ []) h = refl
+joined_no_empty (Some v ∷ []) h = one_apart (Some v) (codes "(empty)") (value_no_empty place.Element v (both (is_ranged v) true h).0)
+joined_no_empty (None ∷ (y ∷ ys)) h = two_apart None y ys (codes "(empty)") h refl
+joined_no_empty (Some v ∷ (y ∷ ys)) h = two_apart (Some v) y ys (codes "(empty)") h refl
+
+cut_again : (marks : Marks) (x : Option Value) (xs : List (Option Value)) → AreUsual marks → list_all is_ranged_element (x ∷ xs) ≡ true
+    → slice_split (λ b. eqb b marks.set_separator) (joined (x ∷ xs)) ≡ map element_text (x ∷ xs)
+cut_again marks x xs u h = ap (λ (c : ℕ). slice_split (λ b. eqb b c) (joined (x ∷ xs))) u.separator ∙ pieces_again x xs h
+
+container_full : (marks : Marks) (e : Elem) (raw : List ℕ) → AreUsual marks → bytes_eq raw (codes "(empty)") ≡ false
+    → container_read marks e raw ≡ option_map cell.Many (elements_read marks e (slice_split (λ b. eqb b marks.set_separator) raw))
+container_full marks e raw u h = rw (u.empty, h) refl
+
+container_again : (marks : Marks) (e : Elem) (items : List (Option Value)) → AreUsual marks → are_elements e items ≡ true → list_all is_ranged_element items ≡ true
+    → container_read marks e (cell_text (cell.Many items)) ≡ Some (cell.Many items)
+unfolding cell_text
+container_again marks e [] u k h = rw u.empty refl
+container_again marks e (x ∷ xs) u k h =
+    let a = both (not (is_lone_unset (x ∷ xs))) (list_all (is_element e) (x ∷ xs)) k in
+    container_full marks e (joined (x ∷ xs)) u (joined_no_empty (x ∷ xs) h)
+    ∙ (ap (λ (raws : List (List ℕ)). option_map cell.Many (elements_read marks e raws)) (cut_again marks x xs u h)
+    ∙ ap (option_map cell.Many) (elements_again marks e (x ∷ xs) u a.1 h))
+
+many_no_dash : (items : List (Option Value)) → is_lone_unset items ≡ false → list_all is_ranged_element items ≡ true → bytes_eq (cell_text (cell.Many items)) (codes "-") ≡ false
+unfolding cell_text
+many_no_dash [] k h = refl
+many_no_dash (x ∷ xs) k h = joined_no_dash (x ∷ xs) k h
+
+-- Cells
+
+not_unset : (marks : Marks) (k : Kind) (raw : List ℕ) → AreUsual marks → bytes_eq raw (codes "-") ≡ false → cell_read marks k raw ≡ kind_read marks k raw
+unfolding cell_read
+not_unset marks k raw u differ = rw (u.unset, differ) refl
+
+unset_again : (marks : Marks) (k : Kind) → AreUsual marks → cell_read marks k (cell_text cell.Unset) ≡ Some cell.Unset
+unfolding cell_read cell_text
+unset_again marks k u = rw u.unset refl
+
+empty_whole : (v : Value) → is_empty_value v ≡ true → cell_text (cell.One v) ≡ codes "(empty)"
+unfolding cell_text
+empty_whole v h = rw h refl
+
+other_whole : (v : Value) → is_empty_value v ≡ false → cell_text (cell.One v) ≡ value_text place.Whole v
+unfolding cell_text
+other_whole v h = rw h refl
+
+empty_value_again : (v : Value) → is_empty_value v ≡ true → (is_text (elem_of v) ≡ true) × (empty_value (elem_of v) ≡ Some v)
+empty_value_again (value.Text []) h = (refl, refl)
+empty_value_again (value.Name []) h = (refl, refl)
+empty_value_again (value.Text (b ∷ bs)) h = absurd cc
+empty_value_again (value.Name (b ∷ bs)) h = absurd cc
+empty_value_again (value.Bool b) h = absurd cc
+empty_value_again (value.Count n) h = absurd cc
+empty_value_again (value.Int z) h = absurd cc
+empty_value_again (value.Time z) h = absurd cc
+empty_value_again (value.Span z) h = absurd cc
+empty_value_again (value.Addr a) h = absurd cc
+empty_value_again (value.Subnet n) h = absurd cc
+empty_value_again (value.Port p) h = absurd cc
+
+set_empty : (marks : Marks) (v : Value) → AreUsual marks → is_empty_value v ≡ true → set_read marks (elem_of v) (codes "(empty)") ≡ Some v
+set_empty marks v u h = let a = empty_value_again v h in rw (u.empty, a.0, a.1) refl
+
+one_again : (marks : Marks) (v : Value) → AreUsual marks → is_ranged v ≡ true → cell_read marks (kind.One (elem_of v)) (cell_text (cell.One v)) ≡ Some (cell.One v)
+one_again marks v u h = elim (cases_Bool (is_empty_value v)) [
+  | inl empty ↦
+      ap (cell_read marks (kind.One (elem_of v))) (empty_whole v empty)
+      ∙ (not_unset marks (kind.One (elem_of v)) (codes "(empty)") u refl ∙ ap (option_map cell.One) (set_empty marks v u empty))
+  | inr other ↦
+      ap (cell_read marks (kind.One (elem_of v))) (other_whole v other)
+      ∙ (not_unset marks (kind.One (elem_of v)) (value_text place.Whole v) u (value_no_dash place.Whole v h) ∙ ap (option_map cell.One) (set_again marks place.Whole v u h))
+]
+
+set_cell_again : (marks : Marks) (e : Elem) (items : List (Option Value)) → AreUsual marks → are_elements e items ≡ true → list_all is_ranged_element items ≡ true
+    → (bytes_eq (cell_text (cell.Many items)) (codes "-") ≡ false) × (container_read marks e (cell_text (cell.Many items)) ≡ Some (cell.Many items))
+set_cell_again marks e items u k h =
+    let a = both (not (is_lone_unset items)) (list_all (is_element e) items) k in
+    (many_no_dash items (not_true (is_lone_unset items) a.0) h, container_again marks e items u k h)
+
+pub cell_again : (marks : Marks) (k : Kind) (x : Cell) → AreUsual marks → has_kind x k ≡ true → is_ranged_cell x ≡ true → cell_read marks k (cell_text x) ≡ Some x
+cell_again marks k cell.Unset u h r = unset_again marks k u
+cell_again marks (kind.One e) (cell.One v) u h r = ap (λ (x : Elem). cell_read marks (kind.One x) (cell_text (cell.One v))) (sym (elem_is (elem_of v) e h)) ∙ one_again marks v u r
+cell_again marks (kind.SetOf e) (cell.One v) u h r = absurd cc
+cell_again marks (kind.VecOf e) (cell.One v) u h r = absurd cc
+cell_again marks (kind.One e) (cell.Many items) u h r = absurd cc
+cell_again marks (kind.SetOf e) (cell.Many items) u h r =
+    let a = set_cell_again marks e items u h r in not_unset marks (kind.SetOf e) (cell_text (cell.Many items)) u a.0 ∙ a.1
+cell_again marks (kind.VecOf e) (cell.Many items) u h r =
+    let a = set_cell_again marks e items u h r in not_unset marks (kind.VecOf e) (cell_text (cell.Many items)) u a.0 ∙ a.1

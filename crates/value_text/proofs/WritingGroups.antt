@@ -42,36 +42,43 @@ four_digits a b c d ha hb hc hd =
 
 pub group_again : (g : ℕ) → g < 65536 → group_of (group_text g) ≡ Some g
 group_again g h = elim (cases_lt g 16) [
-    inl one ↦
-        let whole : 0 * 16 + g ≡ g = omega arith in
-        rw (lt-ltb g 16 one) (one_digit g one ∙ ap (λ (x : ℕ). Some x) whole)
-    | inr more ↦ elim (cases_lt g 256) [
-    inl two ↦
+  | inl one ↦
+      let whole : 0 * 16 + g ≡ g = omega arith in
+      rw (lt-ltb g 16 one) (one_digit g one ∙ ap (λ (x : ℕ). Some x) whole)
+  | inr more ↦ elim (cases_lt g 256) [
+    | inl two ↦
         let whole : (0 * 16 + g / 16) * 16 + g % 16 ≡ g = omega arith in
         rw (le-ltb g 16 more, lt-ltb g 256 two) (two_digits (g / 16) (g % 16) (omega arith) (omega arith) ∙ ap (λ (x : ℕ). Some x) whole)
     | inr more2 ↦ elim (cases_lt g 4096) [
-    inl three ↦
-        let whole : ((0 * 16 + g / 256) * 16 + g / 16 % 16) * 16 + g % 16 ≡ g = omega arith in
-        rw (le-ltb g 16 more, le-ltb g 256 more2, lt-ltb g 4096 three) (three_digits (g / 256) (g / 16 % 16) (g % 16) (omega arith) (omega arith) (omega arith) ∙ ap (λ (x : ℕ). Some x) whole)
-    | inr four ↦
-        let whole : (((0 * 16 + g / 4096) * 16 + g / 256 % 16) * 16 + g / 16 % 16) * 16 + g % 16 ≡ g = omega arith in
-        rw (le-ltb g 16 more, le-ltb g 256 more2, le-ltb g 4096 four) (four_digits (g / 4096) (g / 256 % 16) (g / 16 % 16) (g % 16) (omega arith) (omega arith) (omega arith) (omega arith) ∙ ap (λ (x : ℕ). Some x) whole) ] ] ]
+      | inl three ↦
+          let whole : ((0 * 16 + g / 256) * 16 + g / 16 % 16) * 16 + g % 16 ≡ g = omega arith in
+          rw (le-ltb g 16 more, le-ltb g 256 more2, lt-ltb g 4096 three) (three_digits (g / 256) (g / 16 % 16) (g % 16) (omega arith) (omega arith) (omega arith) ∙ ap (λ (x : ℕ). Some x) whole)
+      | inr four ↦
+          let whole : (((0 * 16 + g / 4096) * 16 + g / 256 % 16) * 16 + g / 16 % 16) * 16 + g % 16 ≡ g = omega arith in
+          rw (le-ltb g 16 more, le-ltb g 256 more2, le-ltb g 4096 four) (four_digits (g / 4096) (g / 256 % 16) (g / 16 % 16) (g % 16) (omega arith) (omega arith) (omega arith) (omega arith) ∙ ap (λ (x : ℕ). Some x) whole)
+    ]
+  ]
+]
 
 -- A test that passes hexadecimal digits passes groups.
 module _ (p : ℕ → Bool) (low : (b : ℕ) → 48 ≤ b → b ≤ 57 → p b ≡ true) (high : (b : ℕ) → 97 ≤ b → b ≤ 102 → p b ≡ true) where
   digit_passes : (d : ℕ) → d < 16 → p (hexadecimal d) ≡ true
   digit_passes d h = elim (cases_lt d 10) [
-      inl small ↦ rw (lt-ltb d 10 small) (low (48 + d) (omega arith) (omega arith))
-      | inr large ↦ rw (le-ltb d 10 large) (high (87 + d) (omega arith) (omega arith)) ]
+    | inl small ↦ rw (lt-ltb d 10 small) (low (48 + d) (omega arith) (omega arith))
+    | inr large ↦ rw (le-ltb d 10 large) (high (87 + d) (omega arith) (omega arith))
+  ]
 
   group_passes : (g : ℕ) → g < 65536 → list_all p (group_text g) ≡ true
   group_passes g h = elim (cases_lt g 16) [
-      inl one ↦ rw (lt-ltb g 16 one, digit_passes g one) refl
-      | inr more ↦ elim (cases_lt g 256) [
-      inl two ↦ rw (le-ltb g 16 more, lt-ltb g 256 two, digit_passes (g / 16) (omega arith), digit_passes (g % 16) (omega arith)) refl
+    | inl one ↦ rw (lt-ltb g 16 one, digit_passes g one) refl
+    | inr more ↦ elim (cases_lt g 256) [
+      | inl two ↦ rw (le-ltb g 16 more, lt-ltb g 256 two, digit_passes (g / 16) (omega arith), digit_passes (g % 16) (omega arith)) refl
       | inr more2 ↦ elim (cases_lt g 4096) [
-      inl three ↦ rw (le-ltb g 16 more, le-ltb g 256 more2, lt-ltb g 4096 three, digit_passes (g / 256) (omega arith), digit_passes (g / 16 % 16) (omega arith), digit_passes (g % 16) (omega arith)) refl
-      | inr four ↦ rw (le-ltb g 16 more, le-ltb g 256 more2, le-ltb g 4096 four, digit_passes (g / 4096) (omega arith), digit_passes (g / 256 % 16) (omega arith), digit_passes (g / 16 % 16) (omega arith), digit_passes (g % 16) (omega arith)) refl ] ] ]
+        | inl three ↦ rw (le-ltb g 16 more, le-ltb g 256 more2, lt-ltb g 4096 three, digit_passes (g / 256) (omega arith), digit_passes (g / 16 % 16) (omega arith), digit_passes (g % 16) (omega arith)) refl
+        | inr four ↦ rw (le-ltb g 16 more, le-ltb g 256 more2, le-ltb g 4096 four, digit_passes (g / 4096) (omega arith), digit_passes (g / 256 % 16) (omega arith), digit_passes (g / 16 % 16) (omega arith), digit_passes (g % 16) (omega arith)) refl
+      ]
+    ]
+  ]
 
   groups_pass : (gs : List ℕ) → list_all is_group gs ≡ true → list_all (λ g. list_all p (group_text g)) gs ≡ true
   groups_pass gs h = all_weaker is_group (λ g. list_all p (group_text g)) (λ g small. group_passes g (ltb-true g 65536 small)) gs h

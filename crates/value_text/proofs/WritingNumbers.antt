@@ -131,15 +131,16 @@ fraction_by k n few h = rw (length_last k n, le-leb k 9 few, last_again k n h) r
 pub fraction_again : (n : ℕ) → n < 10 ^ 9 → fraction_of (fraction_text n) ≡ Some n
 fraction_again n h =
     elim (cases_Bool (eqb (n % 1000) 0)) [
-    inl six ↦
-        let zero_rest = eqb-true (n % 1000) 0 six in
-        let back : n / 1000 * 1000 ≡ n = omega arith in
-        ap fraction_of (cond-true (eqb (n % 1000) 0) (last_digits 6 (n / 1000)) (last_digits 9 n) six)
-        ∙ (fraction_by 6 (n / 1000) (omega arith) (omega arith) ∙ ap (λ (x : ℕ). Some x) back)
-    | inr nine ↦
-        let back : n * 1 ≡ n = omega arith in
-        ap fraction_of (cond-false (eqb (n % 1000) 0) (last_digits 6 (n / 1000)) (last_digits 9 n) nine)
-        ∙ (fraction_by 9 n (omega arith) h ∙ ap (λ (x : ℕ). Some x) back) ]
+      | inl six ↦
+          let zero_rest = eqb-true (n % 1000) 0 six in
+          let back : n / 1000 * 1000 ≡ n = omega arith in
+          ap fraction_of (cond-true (eqb (n % 1000) 0) (last_digits 6 (n / 1000)) (last_digits 9 n) six)
+          ∙ (fraction_by 6 (n / 1000) (omega arith) (omega arith) ∙ ap (λ (x : ℕ). Some x) back)
+      | inr nine ↦
+          let back : n * 1 ≡ n = omega arith in
+          ap fraction_of (cond-false (eqb (n % 1000) 0) (last_digits 6 (n / 1000)) (last_digits 9 n) nine)
+          ∙ (fraction_by 9 n (omega arith) h ∙ ap (λ (x : ℕ). Some x) back)
+    ]
 
 fraction_whole : (n : ℕ) → number_of (decimal (n / 10 ^ 9)) ≡ Some (n / 10 ^ 9) → list_all is_digit (decimal (n / 10 ^ 9)) ≡ true → nanoseconds_of (seconds_text n) ≡ Some n
 fraction_whole n h k =

@@ -63,18 +63,20 @@ grouped_net n h =
 
 pub subnet_again : (n : Net) → n.base < 2 ^ 128 → subnet_of (subnet_text n) ≡ Some n
 subnet_again n h = elim (cases_Bool (leb 96 n.bits && is_mapped n.base)) [
-    inl v4 ↦
-        let a = both (leb 96 n.bits) (is_mapped n.base) v4 in
-        ap subnet_of (cond-true (leb 96 n.bits && is_mapped n.base) (with_bits (dotted_text (n.base % 2 ^ 32)) (n.bits - 96)) (with_bits (grouped_text (groups_of n.base)) n.bits) v4)
-        ∙ dotted_net n a.0 a.1
-    | inr v6 ↦
-        ap subnet_of (cond-false (leb 96 n.bits && is_mapped n.base) (with_bits (dotted_text (n.base % 2 ^ 32)) (n.bits - 96)) (with_bits (grouped_text (groups_of n.base)) n.bits) v6)
-        ∙ grouped_net n h ]
+  | inl v4 ↦
+      let a = both (leb 96 n.bits) (is_mapped n.base) v4 in
+      ap subnet_of (cond-true (leb 96 n.bits && is_mapped n.base) (with_bits (dotted_text (n.base % 2 ^ 32)) (n.bits - 96)) (with_bits (grouped_text (groups_of n.base)) n.bits) v4)
+      ∙ dotted_net n a.0 a.1
+  | inr v6 ↦
+      ap subnet_of (cond-false (leb 96 n.bits && is_mapped n.base) (with_bits (dotted_text (n.base % 2 ^ 32)) (n.bits - 96)) (with_bits (grouped_text (groups_of n.base)) n.bits) v6)
+      ∙ grouped_net n h
+]
 
 -- a test that passes hexadecimal digits, the colon, the point and the slash passes subnets
 pub subnet_passes : (p : ℕ → Bool) → ((b : ℕ) → 48 ≤ b → b ≤ 57 → p b ≡ true) → ((b : ℕ) → 97 ≤ b → b ≤ 102 → p b ≡ true) → p 58 ≡ true → p 46 ≡ true → p 47 ≡ true → (n : Net) → list_all p (subnet_text n) ≡ true
 subnet_passes p low high colon point slash n =
     let narrow = n.narrow in
     elim (leb 96 n.bits && is_mapped n.base) as (λ t. list_all p (cond t (with_bits (dotted_text (n.base % 2 ^ 32)) (n.bits - 96)) (with_bits (grouped_text (groups_of n.base)) n.bits)) ≡ true) [
-    true ↦ all_append p (dotted_text (n.base % 2 ^ 32)) (47 ∷ decimal (n.bits - 96)) (dotted_all p low point (n.base % 2 ^ 32)) (rw (slash, decimal_all p low (n.bits - 96) (omega arith)) refl)
-    | false ↦ all_append p (grouped_text (groups_of n.base)) (47 ∷ decimal n.bits) (grouped_passes p low high colon n.base) (rw (slash, decimal_all p low n.bits (omega arith)) refl) ]
+      | true ↦ all_append p (dotted_text (n.base % 2 ^ 32)) (47 ∷ decimal (n.bits - 96)) (dotted_all p low point (n.base % 2 ^ 32)) (rw (slash, decimal_all p low (n.bits - 96) (omega arith)) refl)
+      | false ↦ all_append p (grouped_text (groups_of n.base)) (47 ∷ decimal n.bits) (grouped_passes p low high colon n.base) (rw (slash, decimal_all p low n.bits (omega arith)) refl)
+    ]

@@ -18,13 +18,15 @@ use Rattle.value_text.proofs.WritingNumbers.{both, all_append}
 -- a hexadecimal digit is one, and has its value
 pub digit_is : (d : ℕ) → d < 16 → is_hexadecimal (hexadecimal d) ≡ true
 digit_is d h = elim (cases_lt d 10) [
-    inl low ↦ rw (lt-ltb d 10 low, le-leb 48 (48 + d) (omega arith), le-leb (48 + d) 57 (omega arith)) refl
-    | inr high ↦ rw (le-ltb d 10 high, le-leb 48 (87 + d) (omega arith), lt-leb (87 + d) 57 (omega arith), le-leb 97 (87 + d) (omega arith), le-leb (87 + d) 102 (omega arith)) refl ]
+  | inl low ↦ rw (lt-ltb d 10 low, le-leb 48 (48 + d) (omega arith), le-leb (48 + d) 57 (omega arith)) refl
+  | inr high ↦ rw (le-ltb d 10 high, le-leb 48 (87 + d) (omega arith), lt-leb (87 + d) 57 (omega arith), le-leb 97 (87 + d) (omega arith), le-leb (87 + d) 102 (omega arith)) refl
+]
 
 pub digit_again : (d : ℕ) → d < 16 → digit_value (hexadecimal d) ≡ d
 digit_again d h = elim (cases_lt d 10) [
-    inl low ↦ rw (lt-ltb d 10 low, le-leb 48 (48 + d) (omega arith), le-leb (48 + d) 57 (omega arith)) (omega arith)
-    | inr high ↦ rw (le-ltb d 10 high, le-leb 48 (87 + d) (omega arith), lt-leb (87 + d) 57 (omega arith), le-leb 97 (87 + d) (omega arith)) (omega arith) ]
+  | inl low ↦ rw (lt-ltb d 10 low, le-leb 48 (48 + d) (omega arith), le-leb (48 + d) 57 (omega arith)) (omega arith)
+  | inr high ↦ rw (le-ltb d 10 high, le-leb 48 (87 + d) (omega arith), lt-leb (87 + d) 57 (omega arith), le-leb 97 (87 + d) (omega arith)) (omega arith)
+]
 
 -- One byte
 
@@ -48,16 +50,19 @@ escape_again b rest h =
 
 escaped_again : (b : ℕ) (rest : List ℕ) → b < 256 → unescaped (escaped_byte b ++ rest) ≡ b ∷ unescaped rest
 escaped_again b rest h = elim (cases_Bool (eqb b 92)) [
-    inl is ↦ rw is (backslash_again rest ∙ ap (λ (x : ℕ). x ∷ unescaped rest) (sym (eqb-true b 92 is)))
-    | inr other ↦ elim (cases_Bool (ltb b 32 || leb 127 b)) [
-        inl hidden ↦ rw (other, hidden) (escape_again b rest h)
-        | inr shown ↦ rw (other, shown) (other_again b rest other) ] ]
+  | inl is ↦ rw is (backslash_again rest ∙ ap (λ (x : ℕ). x ∷ unescaped rest) (sym (eqb-true b 92 is)))
+  | inr other ↦ elim (cases_Bool (ltb b 32 || leb 127 b)) [
+    | inl hidden ↦ rw (other, hidden) (escape_again b rest h)
+    | inr shown ↦ rw (other, shown) (other_again b rest other)
+  ]
+]
 
 byte_again : (place : Place) (b : ℕ) (rest : List ℕ) → b < 256 → unescaped (byte_text place b ++ rest) ≡ b ∷ unescaped rest
 byte_again place.Whole b rest h = escaped_again b rest h
 byte_again place.Element b rest h = elim (cases_Bool (eqb b 44)) [
-    inl is ↦ rw is (escape_again b rest h)
-    | inr other ↦ rw other (escaped_again b rest h) ]
+  | inl is ↦ rw is (escape_again b rest h)
+  | inr other ↦ rw other (escaped_again b rest h)
+]
 
 bytes_again : (place : Place) (t : List ℕ) → list_all is_byte t ≡ true → unescaped (flat_map (byte_text place) t) ≡ t
 bytes_again place [] h = refl
@@ -85,10 +90,12 @@ other_text place t h k = rw (h, k) refl
 
 pub text_again : (place : Place) (t : List ℕ) → list_all is_byte t ≡ true → unescaped (text_text place t) ≡ t
 text_again place t h = elim (cases_Bool (bytes_eq t dash)) [
-    inl is ↦ ap unescaped (dash_text place t is) ∙ sym ((bytes_eq-Decides t dash).0 is)
-    | inr other ↦ elim (cases_Bool (bytes_eq t empty)) [
-        inl is ↦ ap unescaped (empty_text place t other is) ∙ sym ((bytes_eq-Decides t empty).0 is)
-        | inr neither ↦ ap unescaped (other_text place t other neither) ∙ bytes_again place t h ] ]
+  | inl is ↦ ap unescaped (dash_text place t is) ∙ sym ((bytes_eq-Decides t dash).0 is)
+  | inr other ↦ elim (cases_Bool (bytes_eq t empty)) [
+    | inl is ↦ ap unescaped (empty_text place t other is) ∙ sym ((bytes_eq-Decides t empty).0 is)
+    | inr neither ↦ ap unescaped (other_text place t other neither) ∙ bytes_again place t h
+  ]
+]
 
 -- an escape that is some text which escapes leave alone is an escape of that text
 apart : (place : Place) (t text : List ℕ) → list_all is_byte t ≡ true → unescaped text ≡ text → bytes_eq t text ≡ false → bytes_eq (flat_map (byte_text place) t) text ≡ false
@@ -99,17 +106,21 @@ apart place t text h same differ = false_from_ne_true (bytes_eq (flat_map (byte_
 
 pub text_no_dash : (place : Place) (t : List ℕ) → list_all is_byte t ≡ true → bytes_eq (text_text place t) dash ≡ false
 text_no_dash place t h = elim (cases_Bool (bytes_eq t dash)) [
-    inl is ↦ ap (λ (x : List ℕ). bytes_eq x dash) (dash_text place t is)
-    | inr other ↦ elim (cases_Bool (bytes_eq t empty)) [
-        inl is ↦ ap (λ (x : List ℕ). bytes_eq x dash) (empty_text place t other is)
-        | inr neither ↦ ap (λ (x : List ℕ). bytes_eq x dash) (other_text place t other neither) ∙ apart place t dash h refl other ] ]
+  | inl is ↦ ap (λ (x : List ℕ). bytes_eq x dash) (dash_text place t is)
+  | inr other ↦ elim (cases_Bool (bytes_eq t empty)) [
+    | inl is ↦ ap (λ (x : List ℕ). bytes_eq x dash) (empty_text place t other is)
+    | inr neither ↦ ap (λ (x : List ℕ). bytes_eq x dash) (other_text place t other neither) ∙ apart place t dash h refl other
+  ]
+]
 
 pub text_no_empty : (place : Place) (t : List ℕ) → list_all is_byte t ≡ true → bytes_eq (text_text place t) empty ≡ false
 text_no_empty place t h = elim (cases_Bool (bytes_eq t dash)) [
-    inl is ↦ ap (λ (x : List ℕ). bytes_eq x empty) (dash_text place t is)
-    | inr other ↦ elim (cases_Bool (bytes_eq t empty)) [
-        inl is ↦ ap (λ (x : List ℕ). bytes_eq x empty) (empty_text place t other is)
-        | inr neither ↦ ap (λ (x : List ℕ). bytes_eq x empty) (other_text place t other neither) ∙ apart place t empty h refl neither ] ]
+  | inl is ↦ ap (λ (x : List ℕ). bytes_eq x empty) (dash_text place t is)
+  | inr other ↦ elim (cases_Bool (bytes_eq t empty)) [
+    | inl is ↦ ap (λ (x : List ℕ). bytes_eq x empty) (empty_text place t other is)
+    | inr neither ↦ ap (λ (x : List ℕ). bytes_eq x empty) (other_text place t other neither) ∙ apart place t empty h refl neither
+  ]
+]
 
 -- Commas
 
@@ -118,20 +129,24 @@ no_comma b = not (b == 44)
 
 digit_no_comma : (d : ℕ) → no_comma (hexadecimal d) ≡ true
 digit_no_comma d = elim (cases_lt d 10) [
-    inl low ↦ rw (lt-ltb d 10 low, ne_eqb (48 + d) 44 (λ e. omega arith)) refl
-    | inr high ↦ rw (le-ltb d 10 high, ne_eqb (87 + d) 44 (λ e. omega arith)) refl ]
+  | inl low ↦ rw (lt-ltb d 10 low, ne_eqb (48 + d) 44 (λ e. omega arith)) refl
+  | inr high ↦ rw (le-ltb d 10 high, ne_eqb (87 + d) 44 (λ e. omega arith)) refl
+]
 
 escape_no_comma : (b : ℕ) → list_all no_comma (byte_escape b) ≡ true
 escape_no_comma b = rw (digit_no_comma (b / 16), digit_no_comma (b % 16)) refl
 
 byte_no_comma : (b : ℕ) → list_all no_comma (byte_text place.Element b) ≡ true
 byte_no_comma b = elim (cases_Bool (eqb b 44)) [
-    inl is ↦ rw is (escape_no_comma b)
-    | inr other ↦ elim (cases_Bool (eqb b 92)) [
-        inl is ↦ rw (other, is) refl
-        | inr plain ↦ elim (cases_Bool (ltb b 32 || leb 127 b)) [
-            inl hidden ↦ rw (other, plain, hidden) (escape_no_comma b)
-            | inr shown ↦ rw (other, plain, shown, other) refl ] ] ]
+  | inl is ↦ rw is (escape_no_comma b)
+  | inr other ↦ elim (cases_Bool (eqb b 92)) [
+    | inl is ↦ rw (other, is) refl
+    | inr plain ↦ elim (cases_Bool (ltb b 32 || leb 127 b)) [
+      | inl hidden ↦ rw (other, plain, hidden) (escape_no_comma b)
+      | inr shown ↦ rw (other, plain, shown, other) refl
+    ]
+  ]
+]
 
 bytes_no_comma : (t : List ℕ) → list_all no_comma (flat_map (byte_text place.Element) t) ≡ true
 bytes_no_comma [] = refl
@@ -139,7 +154,9 @@ bytes_no_comma (b ∷ bs) = all_append no_comma (byte_text place.Element b) (fla
 
 pub text_no_comma : (t : List ℕ) → list_all no_comma (text_text place.Element t) ≡ true
 text_no_comma t = elim (cases_Bool (bytes_eq t dash)) [
-    inl is ↦ ap (list_all no_comma) (dash_text place.Element t is)
-    | inr other ↦ elim (cases_Bool (bytes_eq t empty)) [
-        inl is ↦ ap (list_all no_comma) (empty_text place.Element t other is)
-        | inr neither ↦ ap (list_all no_comma) (other_text place.Element t other neither) ∙ bytes_no_comma t ] ]
+  | inl is ↦ ap (list_all no_comma) (dash_text place.Element t is)
+  | inr other ↦ elim (cases_Bool (bytes_eq t empty)) [
+    | inl is ↦ ap (list_all no_comma) (empty_text place.Element t other is)
+    | inr neither ↦ ap (list_all no_comma) (other_text place.Element t other neither) ∙ bytes_no_comma t
+  ]
+]

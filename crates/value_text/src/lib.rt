@@ -10,6 +10,7 @@ pub use end::CellEnd;
 pub use marks::Marks;
 
 mod place;
+mod ranges;
 mod run;
 mod write_addresses;
 mod write_numbers;
