@@ -1,5 +1,6 @@
 pub mod Bare
 pub mod Fronts
+pub mod Octets
 pub mod WritingAddresses
 pub mod WritingCells
 pub mod WritingDotted

@@ -14,6 +14,8 @@ mod ranges;
 mod run;
 mod write_addresses;
 mod write_numbers;
+#[cfg(test)]
+mod write_tests;
 mod write_texts;
 mod writing;
 

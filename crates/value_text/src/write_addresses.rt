@@ -81,12 +81,31 @@ fn push_two_octets(number: u32, out: &mut Bytes) -> Result<(), AllocError>
     push_octet(number, out)
 }
 
-// The last octet of a number.
+// The last octet of a number, which has one to three digits.
+#[tactic(auto, using(crate::proofs::Octets::octet_digits))]
 fn push_octet(number: u32, out: &mut Bytes) -> Result<(), AllocError>
     ensures written { OnOk result (out.new ≡ out.old ++ decimal (number % 256)) }
     ensures kept { OnErr result (out.new ≡ out.old) }
 {
-    push_count(u64::from(number % 256), out)
+    let octet = number % 256;
+    if octet < 10 {
+        return out.push(decimal_digit(octet));
+    }
+    if octet < 100 {
+        return out.append(&[decimal_digit(octet / 10), decimal_digit(octet)]);
+    }
+    out.append(&[
+        decimal_digit(octet / 100),
+        decimal_digit(octet / 10),
+        decimal_digit(octet),
+    ])
+}
+
+// The last decimal digit of a number.
+fn decimal_digit(number: u32) -> u8
+    ensures { result ≡ 48 + number % 10 }
+{
+    48 + (number % 10) as u8
 }
 
 fn groups_of(address: u128) -> [u16; 8]
