@@ -1,5 +1,6 @@
 pub mod Bare
 pub mod Fronts
+pub mod GapLemmas
 pub mod Octets
 pub mod WritingAddresses
 pub mod WritingCells

@@ -1,5 +1,5 @@
 -- What values and cells are written as.
-use Rattle.std.specs.Prelude.{◌≡◌, ℕ, suc, zero, ℤ, pos, negsuc, ◌+◌, ◌-◌, ◌*◌, ◌/◌, ◌%◌, ◌^◌, Bool, true, false, not, ◌&&◌, ◌||◌, ◌==◌, if◌then◌else◌, List, [], ◌∷◌, ◌++◌, Option, None, Some, length, take, drop, map, nat_le, nat_lt, codes}
+use Rattle.std.specs.Prelude.{◌≡◌, ◌<◌, ◌≤◌, ℕ, suc, zero, ℤ, pos, negsuc, ◌+◌, ◌-◌, ◌*◌, ◌/◌, ◌%◌, ◌^◌, Bool, true, false, not, ◌&&◌, ◌||◌, ◌==◌, if◌then◌else◌, List, [], ◌∷◌, ◌++◌, Option, None, Some, length, take, drop, map, nat_le, nat_lt, codes}
 use Rattle.std.specs.Fmt.{decimal, signed_decimal}
 use Rattle.std.specs.List.{flat_map, join_by, list_all, prefix_len}
 use Rattle.std.specs.Str.{bytes_eq}
@@ -114,6 +114,12 @@ abbrev pub longest_run : ℕ → List ℕ → Run
 longest_run at [] = record { start = at; count = 0 }
 longest_run at (g ∷ gs) =
     longer_run (record { start = at; count = prefix_len is_zero (g ∷ gs) }) (longest_run (at + 1) gs)
+
+-- A run as it should be: the zeros that begin where it begins, none longer, and each that begins before it shorter.
+pub record IsFirstLongest (groups : List ℕ) (run : Run) : Type 0 where
+  pub zeros : prefix_len is_zero (drop run.start groups) ≡ run.count
+  pub longest : (k : ℕ) → prefix_len is_zero (drop k groups) ≤ run.count
+  pub first : (k : ℕ) → k < run.start → prefix_len is_zero (drop k groups) < run.count
 
 -- groups, where `::` stands for a run of two or more
 abbrev pub gapped_text : Run → List ℕ → List ℕ

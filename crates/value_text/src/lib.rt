@@ -9,6 +9,7 @@ mod marks;
 pub use end::CellEnd;
 pub use marks::Marks;
 
+mod gap_law;
 mod place;
 mod ranges;
 mod run;
@@ -19,5 +20,6 @@ mod write_tests;
 mod write_texts;
 mod writing;
 
+pub use gap_law::first_longest_gap;
 pub use write_texts::write_escaped;
 pub use writing::write_cell;
