@@ -5,7 +5,7 @@ use Rattle.std.specs.Fmt.{decimal, signed_decimal}
 use Rattle.std.specs.List.{list_all, join_by, slice_split}
 use Rattle.std.specs.Option.{option_map, option_and_then}
 use Rattle.std.specs.Str.{bytes_eq}
-use Rattle.std.proofs.lemmas.Bool.{cases_Bool, cond-true, cond-false, le-leb, ltb-true, ne_eqb, false_from_ne_true, true≢false}
+use Rattle.std.proofs.lemmas.Bool.{cases_Bool, cond-true, cond-false, le-leb, lt-ltb, ltb-true, ne_eqb, false_from_ne_true, true≢false}
 use Rattle.std.proofs.lemmas.List.{append-nil}
 use Rattle.std.proofs.lemmas.Slice.Eq.{bytes_eq-Decides}
 use Rattle.vast_value.specs.declared.kind.Elem.{Elem}
@@ -23,23 +23,33 @@ use Rattle.value_text.specs.declared.place.Place.{Place}
 use Rattle.value_text.specs.declared.place.Place.TheVariants as place
 use Rattle.value_text.specs.Escapes.{unescaped}
 use Rattle.value_text.specs.Reading.{bool_of, value_read, empty_value, is_text, set_read, element_read, elements_read, container_read, kind_read, cell_read}
-use Rattle.value_text.specs.Writing.{AreUsual, span_text, seconds_text, fraction_text, last_digits, value_text, is_empty_value, element_text, cell_text, is_ranged, is_ranged_element, is_ranged_cell}
+use Rattle.value_text.specs.Writing.{AreUsual, span_text, seconds_text, fraction_text, last_digits, value_text, is_empty_value, element_text, cell_text, is_printable, is_ranged, is_ranged_element, is_ranged_cell}
 use Rattle.value_text.proofs.WritingNumbers.{both, not_true, all_append, all_weaker, decimal_all, up_to_again, int_again, span_again}
-use Rattle.value_text.proofs.WritingTexts.{other_again, text_again, text_no_dash, text_no_empty, no_comma, text_no_comma}
-use Rattle.value_text.proofs.WritingDotted.{split_joined}
+use Rattle.value_text.proofs.WritingTexts.{other_again, text_again, text_no_dash, text_no_empty, no_comma, text_no_comma, text_printable}
+use Rattle.value_text.proofs.WritingDotted.{split_joined, joined_all}
 use Rattle.value_text.proofs.WritingAddresses.{address_again, address_passes}
 use Rattle.value_text.proofs.WritingSubnets.{subnet_again, subnet_passes}
 
 -- Values that are no texts: their bytes are no commas and no backslashes
 
 abbrev is_clean : ℕ → Bool
-is_clean b = no_comma b && not (eqb b 92)
+is_clean b = no_comma b && (not (eqb b 92) && is_printable b)
+
+clean : (b : ℕ) → 48 ≤ b → b < 127 → (eqb b 92 ≡ false) → is_clean b ≡ true
+clean b low high other = rw (ne_eqb b 44 (λ e. omega arith), other, le-leb 32 b (omega arith), lt-ltb b 127 high) refl
 
 clean_low : (b : ℕ) → 48 ≤ b → b ≤ 57 → is_clean b ≡ true
-clean_low b low high = rw (ne_eqb b 44 (λ e. omega arith), ne_eqb b 92 (λ e. omega arith)) refl
+clean_low b low high = clean b low (omega arith) (ne_eqb b 92 (λ e. omega arith))
 
 clean_high : (b : ℕ) → 97 ≤ b → b ≤ 102 → is_clean b ≡ true
-clean_high b low high = rw (ne_eqb b 44 (λ e. omega arith), ne_eqb b 92 (λ e. omega arith)) refl
+clean_high b low high = clean b (omega arith) (omega arith) (ne_eqb b 92 (λ e. omega arith))
+
+-- the three facts of a clean byte
+clean_parts : (b : ℕ) → is_clean b ≡ true → (no_comma b ≡ true) × ((eqb b 92 ≡ false) × (is_printable b ≡ true))
+clean_parts b h =
+    let a = both (no_comma b) (not (eqb b 92) && is_printable b) h in
+    let c = both (not (eqb b 92)) (is_printable b) a.1 in
+    (a.0, (not_true (eqb b 92) c.0, c.1))
 
 last_passes : (p : ℕ → Bool) → ((b : ℕ) → 48 ≤ b → b ≤ 57 → p b ≡ true) → (k n : ℕ) → list_all p (last_digits k n) ≡ true
 last_passes p f zero n = refl
@@ -81,8 +91,8 @@ clean_unescaped : (t : List ℕ) → list_all is_clean t ≡ true → unescaped 
 clean_unescaped [] h = refl
 clean_unescaped (b ∷ bs) h =
     let a = both (is_clean b) (list_all is_clean bs) h in
-    let c = both (no_comma b) (not (eqb b 92)) a.0 in
-    other_again b bs (not_true (eqb b 92) c.1) ∙ ap (λ (x : List ℕ). b ∷ x) (clean_unescaped bs a.1)
+    let c = clean_parts b a.0 in
+    other_again b bs c.1.0 ∙ ap (λ (x : List ℕ). b ∷ x) (clean_unescaped bs a.1)
 
 plain_again : (place : Place) (v : Value) → is_ranged v ≡ true → is_text (elem_of v) ≡ false → value_read (elem_of v) (value_text place v) ≡ Some v
 unfolding value_text value_read
@@ -189,7 +199,7 @@ value_no_empty place v h = elim (cases_Bool (is_text (elem_of v))) [
 value_no_comma : (v : Value) → is_ranged v ≡ true → list_all no_comma (value_text place.Element v) ≡ true
 value_no_comma v h = elim (cases_Bool (is_text (elem_of v))) [
   | inl text ↦ text_case_comma v text
-  | inr plain ↦ all_weaker is_clean no_comma (λ b c. (both (no_comma b) (not (eqb b 92)) c).0) (value_text place.Element v) (clean_value place.Element v h plain)
+  | inr plain ↦ all_weaker is_clean no_comma (λ b c. (clean_parts b c).0) (value_text place.Element v) (clean_value place.Element v h plain)
 ]
 
 set_plain : (marks : Marks) (e : Elem) (raw : List ℕ) → is_text e ≡ false → set_read marks e raw ≡ value_read e (unescaped raw)
@@ -376,3 +386,40 @@ cell_again marks (kind.SetOf e) (cell.Many items) u h r =
     let a = set_cell_again marks e items u h r in not_unset marks (kind.SetOf e) (cell_text (cell.Many items)) u a.0 ∙ a.1
 cell_again marks (kind.VecOf e) (cell.Many items) u h r =
     let a = set_cell_again marks e items u h r in not_unset marks (kind.VecOf e) (cell_text (cell.Many items)) u a.0 ∙ a.1
+
+-- Printable ASCII
+
+text_case_printable : (place : Place) (v : Value) → is_ranged v ≡ true → is_text (elem_of v) ≡ true → list_all is_printable (value_text place v) ≡ true
+unfolding value_text
+text_case_printable place (value.Text t) h k = text_printable place t h
+text_case_printable place (value.Name t) h k = text_printable place t h
+text_case_printable place (value.Bool b) h k = absurd cc
+text_case_printable place (value.Count n) h k = absurd cc
+text_case_printable place (value.Int z) h k = absurd cc
+text_case_printable place (value.Time z) h k = absurd cc
+text_case_printable place (value.Span z) h k = absurd cc
+text_case_printable place (value.Addr a) h k = absurd cc
+text_case_printable place (value.Subnet n) h k = absurd cc
+text_case_printable place (value.Port p) h k = absurd cc
+
+value_printable : (place : Place) (v : Value) → is_ranged v ≡ true → list_all is_printable (value_text place v) ≡ true
+value_printable place v h = elim (cases_Bool (is_text (elem_of v))) [
+  | inl text ↦ text_case_printable place v h text
+  | inr plain ↦ all_weaker is_clean is_printable (λ b c. (clean_parts b c).1.1) (value_text place v) (clean_value place v h plain)
+]
+
+element_printable : (x : Option Value) → is_ranged_element x ≡ true → list_all is_printable (element_text x) ≡ true
+element_printable None h = refl
+element_printable (Some v) h = value_printable place.Element v h
+
+pub cell_printable : (x : Cell) → is_ranged_cell x ≡ true → list_all is_printable (cell_text x) ≡ true
+unfolding cell_text
+cell_printable cell.Unset h = refl
+cell_printable (cell.One v) h =
+    elim (is_empty_value v) as (λ t. list_all is_printable (cond t (codes "(empty)") (value_text place.Whole v)) ≡ true) [
+      | true ↦ refl
+      | false ↦ value_printable place.Whole v h
+    ]
+cell_printable (cell.Many []) h = refl
+cell_printable (cell.Many (x ∷ xs)) h =
+    joined_all is_printable 44 element_text refl x xs (all_weaker is_ranged_element (λ y. list_all is_printable (element_text y)) element_printable (x ∷ xs) h)

@@ -12,7 +12,7 @@ use Rattle.value_text.specs.declared.place.Place.TheVariants as place
 use Rattle.value_text.specs.Numbers.{is_digit}
 use Rattle.value_text.specs.Addresses.{is_hexadecimal, digit_value}
 use Rattle.value_text.specs.Escapes.{is_byte_escape, unescaped}
-use Rattle.value_text.specs.Writing.{hexadecimal, byte_escape, escaped_byte, byte_text, text_text}
+use Rattle.value_text.specs.Writing.{is_printable, hexadecimal, byte_escape, escaped_byte, byte_text, text_text}
 use Rattle.value_text.proofs.WritingNumbers.{both, all_append}
 
 -- a hexadecimal digit is one, and has its value
@@ -51,9 +51,9 @@ escape_again b rest h =
 escaped_again : (b : ℕ) (rest : List ℕ) → b < 256 → unescaped (escaped_byte b ++ rest) ≡ b ∷ unescaped rest
 escaped_again b rest h = elim (cases_Bool (eqb b 92)) [
   | inl is ↦ rw is (backslash_again rest ∙ ap (λ (x : ℕ). x ∷ unescaped rest) (sym (eqb-true b 92 is)))
-  | inr other ↦ elim (cases_Bool (ltb b 32 || leb 127 b)) [
-    | inl hidden ↦ rw (other, hidden) (escape_again b rest h)
-    | inr shown ↦ rw (other, shown) (other_again b rest other)
+  | inr other ↦ elim (cases_Bool (is_printable b)) [
+    | inl shown ↦ rw (other, shown) (other_again b rest other)
+    | inr hidden ↦ rw (other, hidden) (escape_again b rest h)
   ]
 ]
 
@@ -64,7 +64,7 @@ byte_again place.Element b rest h = elim (cases_Bool (eqb b 44)) [
   | inr other ↦ rw other (escaped_again b rest h)
 ]
 
-bytes_again : (place : Place) (t : List ℕ) → list_all is_byte t ≡ true → unescaped (flat_map (byte_text place) t) ≡ t
+pub bytes_again : (place : Place) (t : List ℕ) → list_all is_byte t ≡ true → unescaped (flat_map (byte_text place) t) ≡ t
 bytes_again place [] h = refl
 bytes_again place (b ∷ bs) h =
     let a = both (is_byte b) (list_all is_byte bs) h in
@@ -141,9 +141,9 @@ byte_no_comma b = elim (cases_Bool (eqb b 44)) [
   | inl is ↦ rw is (escape_no_comma b)
   | inr other ↦ elim (cases_Bool (eqb b 92)) [
     | inl is ↦ rw (other, is) refl
-    | inr plain ↦ elim (cases_Bool (ltb b 32 || leb 127 b)) [
-      | inl hidden ↦ rw (other, plain, hidden) (escape_no_comma b)
-      | inr shown ↦ rw (other, plain, shown, other) refl
+    | inr plain ↦ elim (cases_Bool (is_printable b)) [
+      | inl shown ↦ rw (other, plain, shown, other) refl
+      | inr hidden ↦ rw (other, plain, hidden) (escape_no_comma b)
     ]
   ]
 ]
@@ -158,5 +158,50 @@ text_no_comma t = elim (cases_Bool (bytes_eq t dash)) [
   | inr other ↦ elim (cases_Bool (bytes_eq t empty)) [
     | inl is ↦ ap (list_all no_comma) (empty_text place.Element t other is)
     | inr neither ↦ ap (list_all no_comma) (other_text place.Element t other neither) ∙ bytes_no_comma t
+  ]
+]
+
+-- Printable ASCII
+
+printable : (b : ℕ) → 32 ≤ b → b < 127 → is_printable b ≡ true
+printable b low high = rw (le-leb 32 b low, lt-ltb b 127 high) refl
+
+digit_printable : (d : ℕ) → d < 16 → is_printable (hexadecimal d) ≡ true
+digit_printable d h = elim (cases_lt d 10) [
+  | inl low ↦ rw (lt-ltb d 10 low) (printable (48 + d) (omega arith) (omega arith))
+  | inr high ↦ rw (le-ltb d 10 high) (printable (87 + d) (omega arith) (omega arith))
+]
+
+escape_printable : (b : ℕ) → b < 256 → list_all is_printable (byte_escape b) ≡ true
+escape_printable b h = rw (digit_printable (b / 16) (omega arith), digit_printable (b % 16) (omega arith)) refl
+
+escaped_printable : (b : ℕ) → b < 256 → list_all is_printable (escaped_byte b) ≡ true
+escaped_printable b h = elim (cases_Bool (eqb b 92)) [
+  | inl is ↦ rw is refl
+  | inr other ↦ elim (cases_Bool (is_printable b)) [
+    | inl shown ↦ rw (other, shown, shown) refl
+    | inr hidden ↦ rw (other, hidden) (escape_printable b h)
+  ]
+]
+
+byte_printable : (place : Place) (b : ℕ) → b < 256 → list_all is_printable (byte_text place b) ≡ true
+byte_printable place.Whole b h = escaped_printable b h
+byte_printable place.Element b h = elim (cases_Bool (eqb b 44)) [
+  | inl is ↦ rw is (escape_printable b h)
+  | inr other ↦ rw other (escaped_printable b h)
+]
+
+pub bytes_printable : (place : Place) (t : List ℕ) → list_all is_byte t ≡ true → list_all is_printable (flat_map (byte_text place) t) ≡ true
+bytes_printable place [] h = refl
+bytes_printable place (b ∷ bs) h =
+    let a = both (is_byte b) (list_all is_byte bs) h in
+    all_append is_printable (byte_text place b) (flat_map (byte_text place) bs) (byte_printable place b (ltb-true b 256 a.0)) (bytes_printable place bs a.1)
+
+pub text_printable : (place : Place) (t : List ℕ) → list_all is_byte t ≡ true → list_all is_printable (text_text place t) ≡ true
+text_printable place t h = elim (cases_Bool (bytes_eq t dash)) [
+  | inl is ↦ ap (list_all is_printable) (dash_text place t is)
+  | inr other ↦ elim (cases_Bool (bytes_eq t empty)) [
+    | inl is ↦ ap (list_all is_printable) (empty_text place t other is)
+    | inr neither ↦ ap (list_all is_printable) (other_text place t other neither) ∙ bytes_printable place t h
   ]
 ]

@@ -22,6 +22,10 @@ pub record AreUsual (marks : Marks) : Type 0 where
 
 -- Texts
 
+-- printable ASCII
+abbrev pub is_printable : ℕ → Bool
+is_printable b = nat_le 32 b && nat_lt b 127
+
 -- a digit from 0 to 15 in lower case
 abbrev pub hexadecimal : ℕ → ℕ
 hexadecimal digit = if nat_lt digit 10 then 48 + digit else 87 + digit
@@ -33,7 +37,7 @@ byte_escape b = 92 ∷ (120 ∷ (hexadecimal (b / 16) ∷ (hexadecimal (b % 16) 
 -- A backslash stands twice, and a byte that is no printable character of ASCII is `\xHH`.
 abbrev pub escaped_byte : ℕ → List ℕ
 escaped_byte b =
-    if b == 92 then 92 ∷ (92 ∷ []) else (if nat_lt b 32 || nat_le 127 b then byte_escape b else b ∷ [])
+    if b == 92 then 92 ∷ (92 ∷ []) else (if is_printable b then b ∷ [] else byte_escape b)
 
 -- the plain escape of a text
 abbrev pub escaped_text : List ℕ → List ℕ
@@ -41,8 +45,8 @@ escaped_text text = flat_map escaped_byte text
 
 -- a byte that stands for itself
 abbrev pub is_bare : Place → ℕ → Bool
-is_bare place.Whole b = nat_le 32 b && (nat_lt b 127 && not (b == 92))
-is_bare place.Element b = nat_le 32 b && (nat_lt b 127 && (not (b == 92) && not (b == 44)))
+is_bare place.Whole b = is_printable b && not (b == 92)
+is_bare place.Element b = is_printable b && (not (b == 92) && not (b == 44))
 
 -- between commas a comma is `\x2c` too
 abbrev pub byte_text : Place → ℕ → List ℕ

@@ -52,7 +52,8 @@ fn ranged(value: &Value)
     }
 }
 
-fn ranged_bytes(text: &[u8])
+/// Each byte of a text is one.
+pub(crate) fn ranged_bytes(text: &[u8])
     ensures { IsTrue (list_all is_byte text.now) }
 {
     let _ = text;

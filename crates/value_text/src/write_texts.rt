@@ -1,19 +1,24 @@
 //! The texts of texts: escapes.
-ghost use Rattle.std.specs.Prelude.{◌≡◌, ◌<◌, ◌++◌, OnOk, OnErr};
+ghost use Rattle.std.specs.Prelude.{◌≡◌, ◌<◌, ◌++◌, IsTrue, OnOk, OnErr};
 ghost use Rattle.std.specs.List.{flat_map, list_all};
-ghost use Rattle.value_text.specs.Writing.{BeginsWith, hexadecimal, byte_escape, escaped_byte, escaped_text, byte_text, is_bare, text_text};
+ghost use Rattle.value_text.specs.Escapes.{unescaped};
+ghost use Rattle.value_text.specs.Writing.{BeginsWith, hexadecimal, byte_escape, escaped_byte, escaped_text, byte_text, is_bare, is_printable, text_text};
 ghost use Rattle.value_text.specs.declared.place.Place.TheVariants.{Whole};
 
 use crate::place::Place;
+use crate::ranges::ranged_bytes;
 use std::alloc::AllocError;
 use vast_value::Bytes;
 
 /// Puts a text behind what `out` holds, by the plain escape: a backslash stands twice, and a byte that is no printable
-/// character of ASCII is `\xHH` in lower case.
+/// character of ASCII is `\xHH` in lower case. What was put is printable ASCII, and reads as the text again.
 pub fn write_escaped(text: &[u8], out: &mut Bytes) -> Result<(), AllocError>
     ensures written { OnOk result (out.new ≡ out.old ++ escaped_text text.now) }
     ensures kept { OnErr result (out.new ≡ out.old) }
+    ensures printable { IsTrue (list_all is_printable (escaped_text text.now)) }
+    ensures read_back { unescaped (escaped_text text.now) ≡ text.now }
 {
+    ranged_bytes(text);
     let before = out.as_slice().len();
     match push_escaped(Place::Whole, text, out) {
         Ok(()) => Ok(()),
@@ -56,13 +61,20 @@ fn are_bare(place: Place, text: &[u8]) -> bool
     text.iter().all(|byte| is_bare(place, *byte))
 }
 
+// Whether a byte is printable ASCII.
+fn is_printable(byte: u8) -> bool
+    ensures { result ≡ is_printable byte }
+{
+    32 <= byte && byte < 127
+}
+
 // Whether a byte stands for itself.
 fn is_bare(place: Place, byte: u8) -> bool
     ensures { result ≡ is_bare place byte }
 {
     match place {
-        Place::Whole => 32 <= byte && byte < 127 && byte != b'\\',
-        Place::Element => 32 <= byte && byte < 127 && byte != b'\\' && byte != b',',
+        Place::Whole => is_printable(byte) && byte != b'\\',
+        Place::Element => is_printable(byte) && byte != b'\\' && byte != b',',
     }
 }
 
@@ -99,10 +111,10 @@ fn push_escaped_byte(byte: u8, out: &mut Bytes) -> Result<(), AllocError>
     if byte == b'\\' {
         return out.append(b"\\\\");
     }
-    if byte < 32 || 127 <= byte {
-        return out.append(&byte_escape(byte));
+    if is_printable(byte) {
+        return out.push(byte);
     }
-    out.push(byte)
+    out.append(&byte_escape(byte))
 }
 
 fn byte_escape(byte: u8) -> [u8; 4]

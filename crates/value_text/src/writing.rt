@@ -1,12 +1,12 @@
 //! The canonical texts of cells.
 ghost use Rattle.std.specs.Prelude.{◌≡◌, ◌∷◌, [], ◌++◌, if◌then◌else◌, Some, length, codes, IsTrue, OnOk, OnErr};
-ghost use Rattle.std.specs.List.{flat_map};
+ghost use Rattle.std.specs.List.{flat_map, list_all};
 ghost use Rattle.vast_value.specs.declared.cell.Cell.TheVariants.{Many};
 ghost use Rattle.vast_value.specs.declared.kind.Kind.{Kind};
 ghost use Rattle.vast_value.specs.Kinds.{has_kind};
 ghost use Rattle.value_text.specs.Reading.{cell_read};
 ghost use Rattle.value_text.specs.declared.marks.Marks.{Marks};
-ghost use Rattle.value_text.specs.Writing.{AreUsual, BeginsWith, is_empty_value, value_text, element_text, cell_text};
+ghost use Rattle.value_text.specs.Writing.{AreUsual, BeginsWith, is_printable, is_empty_value, value_text, element_text, cell_text};
 ghost use Rattle.value_text.specs.declared.place.Place.TheVariants.{Whole};
 
 use crate::place::Place;
@@ -17,11 +17,12 @@ use crate::write_texts::push_text;
 use std::alloc::AllocError;
 use vast_value::{Bytes, Cell, Value};
 
-/// Puts the canonical text of a cell behind what `out` holds. In a log with the usual marks that text reads as the cell
+/// Puts the canonical text of a cell, which is printable ASCII, behind what `out` holds. In a log with the usual marks that text reads as the cell
 /// again, in a column of each kind that the cell has.
 pub fn write_cell(cell: &Cell, out: &mut Bytes) -> Result<(), AllocError>
     ensures written { OnOk result (out.new ≡ out.old ++ cell_text cell.now) }
     ensures kept { OnErr result (out.new ≡ out.old) }
+    ensures printable { IsTrue (list_all is_printable (cell_text cell.now)) }
     ensures read_back { (marks : Marks) (kind : Kind) → AreUsual marks → IsTrue (has_kind cell.now kind) → cell_read marks kind (cell_text cell.now) ≡ Some cell.now }
 {
     ranged_cell(cell);
