@@ -1,7 +1,6 @@
 -- What a text begins with after a piece was put behind it.
-use Rattle.std.proofs.Common.{◌≡◌, ℕ, List, [], ◌++◌, ◌+◌, ◌≤◌, length, take, refl, ap, ◌∙◌, sym, subst, arith}
-use Rattle.std.proofs.lemmas.List.{take_all, take_at, take-append-le, take-take, length-take, length-append, append-nil}
-use Rattle.std.specs.List.{flat_map, list_all}
+use Rattle.std.proofs.Common.{◌≡◌, ℕ, List, ◌++◌, ◌≤◌, length, take, refl, ap, ◌∙◌, sym, arith}
+use Rattle.std.proofs.lemmas.List.{take_all, take_at, take-take, length-append}
 use Rattle.value_text.specs.Writing.{BeginsWith}
 
 pub front_same : (a b : List ℕ) → b ≡ a → BeginsWith b a

@@ -1,9 +1,9 @@
 -- The run that an address leaves out is the first of the longest runs of zero groups.
-use Rattle.std.proofs.Common.{◌≡◌, ℕ, zero, suc, ◌+◌, ◌<◌, ◌≤◌, Bool, true, false, cond, leb, List, [], ◌∷◌, drop, refl, ap, sym, ◌∙◌, subst, arith}
+use Rattle.std.proofs.Common.{◌≡◌, ℕ, zero, suc, ◌+◌, ◌<◌, ◌≤◌, Bool, true, false, cond, leb, List, [], ◌∷◌, drop, refl, ap, sym, ◌∙◌, arith}
 use Rattle.std.specs.List.{prefix_len}
 use Rattle.std.proofs.lemmas.Bool.{leb-true, leb-false}
 use Rattle.value_text.specs.declared.run.Run.{Run}
-use Rattle.value_text.specs.Writing.{is_zero, longer_run, longest_run, IsFirstLongest}
+use Rattle.value_text.specs.Writing.{is_zero, longest_run, IsFirstLongest}
 
 abbrev zeros_at : ℕ → List ℕ → ℕ
 zeros_at k groups = prefix_len is_zero (drop k groups)

@@ -1,15 +1,14 @@
 -- Addresses that were written are read again.
-use Rattle.std.proofs.Common.{◌≡◌, ℕ, zero, suc, ◌+◌, ◌-◌, ◌*◌, ◌/◌, ◌%◌, ◌^◌, ◌<◌, ◌≤◌, Bool, true, false, not, ◌&&◌, ◌||◌, cond, ltb, leb, eqb, List, [], ◌∷◌, ◌++◌, length, map, take, drop, Option, None, Some, refl, ap, sym, ◌∙◌, subst, append_assoc, arith, inl, inr}
+use Rattle.std.proofs.Common.{◌≡◌, ℕ, zero, suc, ◌+◌, ◌-◌, ◌*◌, ◌/◌, ◌%◌, ◌^◌, ◌<◌, ◌≤◌, Bool, true, false, not, cond, leb, List, [], ◌∷◌, ◌++◌, length, take, drop, None, Some, refl, ap, sym, ◌∙◌, arith, inl, inr}
 use Rattle.std.specs.Prelude.{replicate}
-use Rattle.std.specs.List.{list_all, prefix_len, slice_split, fold}
-use Rattle.std.specs.Option.{option_map, option_and_then, option_or}
-use Rattle.std.proofs.lemmas.Bool.{cases_Bool, cond-true, cond-false, le-leb, lt-leb, lt-ltb, leb-true, leb-false, eqb-true, ne_eqb}
+use Rattle.std.specs.List.{list_all, prefix_len}
+use Rattle.std.proofs.lemmas.Bool.{cases_Bool, cond-true, cond-false, le-leb, lt-ltb, leb-true, eqb-true, ne_eqb}
 use Rattle.std.proofs.lemmas.List.{append-nil, length-take-le, length-drop}
 use Rattle.std.proofs.lemmas.List.Sums.{prefix_len-le-length}
 use Rattle.std.proofs.lemmas.Nat.{shr-shr, div-add-mod'}
 use Rattle.value_text.specs.declared.run.Run.{Run}
 use Rattle.value_text.specs.Numbers.{is_point}
-use Rattle.value_text.specs.Addresses.{pieces_of, plain_groups, groups_to_end, around_gap, number_of_groups, eight_groups, with_gap, gapped, grouped_of, dotted_of, octets, mapped, address_of}
+use Rattle.value_text.specs.Addresses.{around_gap, number_of_groups, with_gap, grouped_of, dotted_of, octets, mapped, address_of}
 use Rattle.value_text.specs.Writing.{groups_of, joined_groups, longer_run, is_zero, longest_run, gapped_text, grouped_text, dotted_text, is_mapped, address_text}
 use Rattle.value_text.proofs.WritingNumbers.{both, all_append}
 use Rattle.value_text.proofs.WritingDotted.{split_none, dotted_again, dotted_all}

@@ -1,11 +1,11 @@
 -- Cells that were written are read again.
-use Rattle.std.proofs.Common.{◌≡◌, ℕ, ℤ, pos, negsuc, zero, suc, ◌+◌, ◌-◌, ◌*◌, ◌/◌, ◌%◌, ◌^◌, ◌<◌, ◌≤◌, Bool, true, false, not, ◌&&◌, cond, ltb, leb, eqb, List, [], ◌∷◌, ◌++◌, length, map, Option, None, Some, refl, ap, sym, ◌∙◌, subst, arith, inl, inr}
+use Rattle.std.proofs.Common.{◌≡◌, ℕ, ℤ, pos, negsuc, zero, suc, ◌+◌, ◌-◌, ◌/◌, ◌%◌, ◌^◌, ◌<◌, ◌≤◌, Bool, true, false, not, ◌&&◌, cond, eqb, List, [], ◌∷◌, map, Option, None, Some, refl, ap, sym, ◌∙◌, arith, inl, inr}
 use Rattle.std.specs.Prelude.{codes}
 use Rattle.std.specs.Fmt.{decimal, signed_decimal}
 use Rattle.std.specs.List.{list_all, join_by, slice_split}
-use Rattle.std.specs.Option.{option_map, option_and_then}
+use Rattle.std.specs.Option.{option_map}
 use Rattle.std.specs.Str.{bytes_eq}
-use Rattle.std.proofs.lemmas.Bool.{cases_Bool, cond-true, cond-false, le-leb, lt-ltb, ltb-true, ne_eqb, false_from_ne_true, true≢false}
+use Rattle.std.proofs.lemmas.Bool.{cases_Bool, le-leb, lt-ltb, ltb-true, ne_eqb, false_from_ne_true}
 use Rattle.std.proofs.lemmas.List.{append-nil}
 use Rattle.std.proofs.lemmas.Slice.Eq.{bytes_eq-Decides}
 use Rattle.vast_value.specs.declared.kind.Elem.{Elem}
@@ -16,13 +16,13 @@ use Rattle.vast_value.specs.declared.value.Value.{Value}
 use Rattle.vast_value.specs.declared.value.Value.TheVariants as value
 use Rattle.vast_value.specs.declared.cell.Cell.{Cell}
 use Rattle.vast_value.specs.declared.cell.Cell.TheVariants as cell
-use Rattle.vast_value.specs.Fit.{is_byte, is_i64}
+use Rattle.vast_value.specs.Fit.{is_i64}
 use Rattle.vast_value.specs.Kinds.{elem_of, elem_eq, is_element, is_lone_unset, are_elements, has_kind}
 use Rattle.value_text.specs.declared.marks.Marks.{Marks}
 use Rattle.value_text.specs.declared.place.Place.{Place}
 use Rattle.value_text.specs.declared.place.Place.TheVariants as place
 use Rattle.value_text.specs.Escapes.{unescaped}
-use Rattle.value_text.specs.Reading.{bool_of, value_read, empty_value, is_text, set_read, element_read, elements_read, container_read, kind_read, cell_read}
+use Rattle.value_text.specs.Reading.{value_read, empty_value, is_text, set_read, element_read, elements_read, container_read, kind_read, cell_read}
 use Rattle.value_text.specs.Writing.{AreUsual, span_text, seconds_text, fraction_text, last_digits, value_text, is_empty_value, element_text, cell_text, is_printable, is_ranged, is_ranged_element, is_ranged_cell}
 use Rattle.value_text.proofs.WritingNumbers.{both, not_true, all_append, all_weaker, decimal_all, up_to_again, int_again, span_again}
 use Rattle.value_text.proofs.WritingTexts.{other_again, text_again, text_no_dash, text_no_empty, no_comma, text_no_comma, text_printable}

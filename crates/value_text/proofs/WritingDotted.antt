@@ -1,16 +1,14 @@
 -- Joined pieces are split again, and dotted numbers read back.
-use Rattle.std.proofs.Common.{◌≡◌, ℕ, zero, suc, ◌+◌, ◌-◌, ◌*◌, ◌/◌, ◌%◌, ◌^◌, ◌<◌, ◌≤◌, Bool, true, false, not, ◌&&◌, ◌||◌, cond, ltb, leb, eqb, List, [], ◌∷◌, ◌++◌, length, map, Option, None, Some, refl, ap, sym, ◌∙◌, subst, append_assoc, arith, inl, inr}
+use Rattle.std.proofs.Common.{◌≡◌, ℕ, ◌+◌, ◌*◌, ◌/◌, ◌%◌, ◌^◌, ◌<◌, ◌≤◌, Bool, true, not, List, [], ◌∷◌, ◌++◌, length, map, Some, refl, ap, ◌∙◌, arith}
 use Rattle.std.specs.Fmt.{decimal}
-use Rattle.std.specs.List.{list_all, flat_map, join_by, slice_split, onto_first}
-use Rattle.std.specs.Option.{option_map, option_and_then}
-use Rattle.std.proofs.lemmas.Bool.{cases_Bool, le-leb, lt-leb, lt-ltb, le-ltb, ne_eqb}
+use Rattle.std.specs.List.{list_all, join_by, slice_split}
+use Rattle.std.proofs.lemmas.Bool.{le-leb, ne_eqb}
 use Rattle.std.proofs.lemmas.Fmt.{length-decimal-le}
-use Rattle.std.proofs.lemmas.Grind.{common_steps}
 use Rattle.std.proofs.lemmas.List.{append-nil}
-use Rattle.value_text.specs.Numbers.{is_digit, is_point, number_up_to}
+use Rattle.value_text.specs.Numbers.{is_point}
 use Rattle.value_text.specs.Addresses.{short_number, octets, dotted_of}
 use Rattle.value_text.specs.Writing.{octets_of, dotted_text}
-use Rattle.value_text.proofs.WritingNumbers.{both, not_true, all_append, all_weaker, up_to_again, decimal_all, decimal_digits}
+use Rattle.value_text.proofs.WritingNumbers.{both, not_true, all_append, up_to_again, decimal_all}
 
 pub split_none : (p : ℕ → Bool) (xs : List ℕ) → list_all (λ b. not (p b)) xs ≡ true → slice_split p xs ≡ xs ∷ []
 split_none p [] h = refl

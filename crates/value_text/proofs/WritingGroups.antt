@@ -1,19 +1,13 @@
 -- Groups that were written are read again.
-use Rattle.std.proofs.Common.{◌≡◌, ℕ, zero, suc, ◌+◌, ◌-◌, ◌*◌, ◌/◌, ◌%◌, ◌^◌, ◌<◌, ◌≤◌, Bool, true, false, not, ◌&&◌, ◌||◌, cond, ltb, leb, eqb, List, [], ◌∷◌, ◌++◌, length, map, take, drop, Option, None, Some, refl, ap, sym, ◌∙◌, subst, append_assoc, arith, inl, inr}
-use Rattle.std.specs.Prelude.{replicate}
-use Rattle.std.specs.List.{list_all, flat_map, join_by, slice_split, prefix_len, fold}
-use Rattle.std.specs.Option.{option_map, option_and_then, option_or}
-use Rattle.std.proofs.lemmas.Bool.{cases_Bool, cases_lt, le-leb, lt-leb, lt-ltb, le-ltb, ltb-true, leb-true, leb-false, eqb-true, ne_eqb}
-use Rattle.std.proofs.lemmas.Grind.{common_steps}
-use Rattle.std.proofs.lemmas.List.{append-nil, length-take-le, length-drop}
-use Rattle.std.proofs.lemmas.Nat.{shr-shr, div-add-mod'}
-use Rattle.value_text.specs.declared.run.Run.{Run}
-use Rattle.value_text.specs.Numbers.{is_digit, is_point}
-use Rattle.value_text.specs.Addresses.{is_colon, is_hexadecimal, digit_value, hexadecimal_behind, group_of, last_groups, groups_to_end, plain_groups, pieces_of, around_gap, number_of_groups, eight_groups, with_gap, gapped, grouped_of, dotted_of, octets}
-use Rattle.value_text.specs.Writing.{hexadecimal, groups_of, group_text, joined_groups, longer_run, is_zero, longest_run, gapped_text, grouped_text}
-use Rattle.value_text.proofs.WritingNumbers.{both, not_true, all_append, all_weaker}
+use Rattle.std.proofs.Common.{◌≡◌, ℕ, ◌+◌, ◌*◌, ◌/◌, ◌%◌, ◌<◌, ◌≤◌, Bool, true, false, not, ltb, List, [], ◌∷◌, ◌++◌, map, Option, None, Some, refl, ap, sym, ◌∙◌, append_assoc, arith, inl, inr}
+use Rattle.std.specs.List.{list_all, flat_map, slice_split}
+use Rattle.std.specs.Option.{option_map, option_and_then}
+use Rattle.std.proofs.lemmas.Bool.{cases_lt, lt-ltb, le-ltb, ltb-true, ne_eqb}
+use Rattle.value_text.specs.Addresses.{is_colon, hexadecimal_behind, group_of, last_groups, groups_to_end, plain_groups, pieces_of, around_gap}
+use Rattle.value_text.specs.Writing.{hexadecimal, group_text, joined_groups}
+use Rattle.value_text.proofs.WritingNumbers.{both, not_true, all_weaker}
 use Rattle.value_text.proofs.WritingTexts.{digit_is, digit_again}
-use Rattle.value_text.proofs.WritingDotted.{split_joined, joined_all, split_none}
+use Rattle.value_text.proofs.WritingDotted.{split_joined, joined_all}
 
 abbrev pub is_group : ℕ → Bool
 is_group g = ltb g 65536

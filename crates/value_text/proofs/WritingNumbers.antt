@@ -1,16 +1,16 @@
 -- Decimal digits and times that were written are read again.
-use Rattle.std.proofs.Common.{◌≡◌, ℕ, ℤ, pos, negsuc, zero, suc, ◌+◌, ◌-◌, ◌*◌, ◌/◌, ◌%◌, ◌^◌, ◌<◌, ◌≤◌, Bool, true, false, not, ◌&&◌, cond, ltb, leb, eqb, List, [], ◌∷◌, ◌++◌, length, take, drop, Option, None, Some, refl, ap, sym, ◌∙◌, append_assoc, arith, neg_ℤ, inl, inr}
+use Rattle.std.proofs.Common.{◌≡◌, ℕ, ℤ, pos, negsuc, zero, suc, ◌+◌, ◌-◌, ◌*◌, ◌/◌, ◌%◌, ◌^◌, ◌<◌, ◌≤◌, Bool, true, false, not, ◌&&◌, cond, leb, eqb, List, [], ◌∷◌, ◌++◌, length, drop, None, Some, refl, ap, sym, ◌∙◌, arith, inl, inr}
 use Rattle.std.specs.Fmt.{decimal, signed_decimal}
-use Rattle.std.specs.List.{list_all, before_first, after_first, position_or_len, prefix_len}
-use Rattle.std.specs.Option.{option_map, option_and_then}
-use Rattle.std.proofs.lemmas.Bool.{cases_Bool, cond-true, cond-false, le-leb, lt-leb, lt-ltb, ne_eqb, eq-eqb, eqb-true, ltb-true}
-use Rattle.std.proofs.lemmas.Fmt.{decimal_by_steps, length-decimal-le}
+use Rattle.std.specs.List.{list_all, before_first, after_first, position_or_len}
+use Rattle.std.specs.Option.{option_and_then}
+use Rattle.std.proofs.lemmas.Bool.{cases_Bool, cond-true, cond-false, le-leb, eqb-true, ltb-true}
+use Rattle.std.proofs.lemmas.Fmt.{decimal_by_steps}
 use Rattle.std.proofs.lemmas.Grind.{common_steps}
-use Rattle.std.proofs.lemmas.List.{take_at, drop_at, drop-drop, length-append, append-nil}
+use Rattle.std.proofs.lemmas.List.{take_at, drop_at, drop-drop, append-nil}
 use Rattle.std.proofs.Math.Nat.{pow-succ', mod-eq_of_lt, one-le-pow}
 use lib.Arith.{mod-mul}
 use Rattle.vast_value.specs.Fit.{is_i64}
-use Rattle.value_text.specs.Numbers.{is_digit, number_behind, number_of, if_at_most, number_up_to, begins_with, is_negative, without_sign, if_i64, int_of, is_point, fraction_of, nanoseconds_of, span_of}
+use Rattle.value_text.specs.Numbers.{is_digit, number_behind, number_of, number_up_to, is_negative, without_sign, int_of, is_point, fraction_of, nanoseconds_of, span_of}
 use Rattle.value_text.specs.Writing.{last_digits, fraction_text, seconds_text, span_text}
 
 pub both : (a b : Bool) → (a && b) ≡ true → (a ≡ true) × (b ≡ true)

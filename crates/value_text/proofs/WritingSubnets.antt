@@ -1,14 +1,13 @@
 -- Subnets that were written are read again.
-use Rattle.std.proofs.Common.{◌≡◌, ℕ, zero, suc, ◌+◌, ◌-◌, ◌*◌, ◌/◌, ◌%◌, ◌^◌, ◌<◌, ◌≤◌, Bool, true, false, not, ◌&&◌, cond, ltb, leb, eqb, List, [], ◌∷◌, ◌++◌, length, Option, None, Some, refl, ap, sym, ◌∙◌, subst, arith, inl, inr}
+use Rattle.std.proofs.Common.{◌≡◌, ℕ, ◌+◌, ◌-◌, ◌*◌, ◌/◌, ◌%◌, ◌^◌, ◌<◌, ◌≤◌, Bool, true, false, not, ◌&&◌, cond, leb, eqb, List, ◌∷◌, ◌++◌, Some, refl, ap, ◌∙◌, arith, inl, inr}
 use Rattle.std.specs.Fmt.{decimal}
-use Rattle.std.specs.List.{list_all, before_first, after_first}
-use Rattle.std.specs.Option.{option_map, option_and_then}
+use Rattle.std.specs.List.{list_all}
 use Rattle.std.proofs.lemmas.Bool.{cases_Bool, cond-true, cond-false, le-leb, leb-true, eq-eqb, ne_eqb}
 use Rattle.std.proofs.lemmas.Nat.{div-add-mod'}
 use Rattle.vast_value.specs.declared.net.Net.{Net}
 use Rattle.vast_value.specs.Nets.{net_of, net_by}
 use Rattle.vast_value.proofs.NetLemmas.{net_equal}
-use Rattle.value_text.specs.Addresses.{is_slash, short_number, dotted_of, grouped_of, mapped, subnet, subnet_from, subnet_of}
+use Rattle.value_text.specs.Addresses.{is_slash, dotted_of, grouped_of, mapped, subnet, subnet_from, subnet_of}
 use Rattle.value_text.specs.Writing.{groups_of, grouped_text, dotted_text, is_mapped, subnet_text}
 use Rattle.value_text.proofs.WritingNumbers.{both, all_append, decimal_all, before_again, after_again}
 use Rattle.value_text.proofs.WritingDotted.{short_again, dotted_again, dotted_all}

@@ -1,17 +1,15 @@
 -- Texts that were written are read again.
-use Rattle.std.proofs.Common.{◌≡◌, ℕ, zero, suc, ◌+◌, ◌-◌, ◌*◌, ◌/◌, ◌%◌, ◌^◌, ◌<◌, ◌≤◌, Bool, true, false, not, ◌&&◌, ◌||◌, cond, ltb, leb, eqb, List, [], ◌∷◌, ◌++◌, length, refl, ap, sym, ◌∙◌, subst, append_assoc, arith, inl, inr}
+use Rattle.std.proofs.Common.{◌≡◌, ℕ, ◌+◌, ◌*◌, ◌/◌, ◌%◌, ◌<◌, ◌≤◌, Bool, true, false, not, eqb, List, [], ◌∷◌, ◌++◌, refl, ap, sym, ◌∙◌, arith, inl, inr}
 use Rattle.std.specs.Prelude.{codes, ◌==◌}
 use Rattle.std.specs.List.{list_all, flat_map}
 use Rattle.std.specs.Str.{bytes_eq}
-use Rattle.std.proofs.lemmas.Bool.{cases_Bool, cond-true, cond-false, le-leb, lt-leb, lt-ltb, le-ltb, ltb-true, ltb-false, eqb-true, eqb-false, ne_eqb, cases_lt, false_from_ne_true, true≢false, and_parts}
-use Rattle.std.proofs.lemmas.Grind.{common_steps}
+use Rattle.std.proofs.lemmas.Bool.{cases_Bool, le-leb, lt-leb, lt-ltb, le-ltb, ltb-true, eqb-true, ne_eqb, cases_lt, false_from_ne_true, true≢false}
 use Rattle.std.proofs.lemmas.Slice.Eq.{bytes_eq-Decides}
 use Rattle.vast_value.specs.Fit.{is_byte}
 use Rattle.value_text.specs.declared.place.Place.{Place}
 use Rattle.value_text.specs.declared.place.Place.TheVariants as place
-use Rattle.value_text.specs.Numbers.{is_digit}
 use Rattle.value_text.specs.Addresses.{is_hexadecimal, digit_value}
-use Rattle.value_text.specs.Escapes.{is_byte_escape, unescaped}
+use Rattle.value_text.specs.Escapes.{unescaped}
 use Rattle.value_text.specs.Writing.{is_printable, hexadecimal, byte_escape, escaped_byte, byte_text, text_text}
 use Rattle.value_text.proofs.WritingNumbers.{both, all_append}
 
