@@ -1,11 +1,11 @@
-pub mod Bare
-pub mod Fronts
-pub mod GapLemmas
-pub mod Octets
 pub mod WritingAddresses
+pub mod WritingBare
 pub mod WritingCells
 pub mod WritingDotted
+pub mod WritingFronts
+pub mod WritingGap
 pub mod WritingGroups
 pub mod WritingNumbers
+pub mod WritingOctets
 pub mod WritingSubnets
 pub mod WritingTexts

@@ -11,7 +11,7 @@ use std::alloc::AllocError;
 use vast_value::{Bytes, Net};
 
 /// Puts the text of an address behind the others.
-#[tactic(auto, using(crate::proofs::Fronts::fronts))]
+#[tactic(auto, using(crate::proofs::WritingFronts::fronts))]
 pub(crate) fn push_address(address: u128, out: &mut Bytes) -> Result<(), AllocError>
     ensures written { OnOk result (out.new ≡ out.old ++ address_text address) }
     ensures front { OnErr result (BeginsWith out.new out.old) }
@@ -24,7 +24,7 @@ pub(crate) fn push_address(address: u128, out: &mut Bytes) -> Result<(), AllocEr
 }
 
 /// Puts the text of a subnet behind the others.
-#[tactic(auto, using(crate::proofs::Fronts::fronts))]
+#[tactic(auto, using(crate::proofs::WritingFronts::fronts))]
 pub(crate) fn push_subnet(net: &Net, out: &mut Bytes) -> Result<(), AllocError>
     ensures written { OnOk result (out.new ≡ out.old ++ subnet_text net.now) }
     ensures front { OnErr result (BeginsWith out.new out.old) }
@@ -38,7 +38,7 @@ pub(crate) fn push_subnet(net: &Net, out: &mut Bytes) -> Result<(), AllocError>
     }
 }
 
-#[tactic(auto, using(crate::proofs::Fronts::fronts))]
+#[tactic(auto, using(crate::proofs::WritingFronts::fronts))]
 fn push_bits(bits: u8, out: &mut Bytes) -> Result<(), AllocError>
     ensures written { OnOk result (out.new ≡ out.old ++ 47 ∷ decimal bits) }
     ensures front { OnErr result (BeginsWith out.new out.old) }
@@ -60,7 +60,7 @@ fn low_half(address: u128) -> u32
     (address % (1 << 32)) as u32
 }
 
-#[tactic(auto, using(crate::proofs::Fronts::fronts, crate::proofs::Fronts::front_behind_two), unfolding(crate::specs::Writing::dotted_text))]
+#[tactic(auto, using(crate::proofs::WritingFronts::fronts, crate::proofs::WritingFronts::front_behind_two), unfolding(crate::specs::Writing::dotted_text))]
 fn push_dotted(address: u32, out: &mut Bytes) -> Result<(), AllocError>
     ensures written { OnOk result (out.new ≡ out.old ++ dotted_text address) }
     ensures front { OnErr result (BeginsWith out.new out.old) }
@@ -71,7 +71,7 @@ fn push_dotted(address: u32, out: &mut Bytes) -> Result<(), AllocError>
 }
 
 // The last two octets of a number.
-#[tactic(auto, using(crate::proofs::Fronts::fronts))]
+#[tactic(auto, using(crate::proofs::WritingFronts::fronts))]
 fn push_two_octets(number: u32, out: &mut Bytes) -> Result<(), AllocError>
     ensures written { OnOk result (out.new ≡ out.old ++ (decimal (number / 2 ^ 8 % 256) ++ 46 ∷ decimal (number % 256))) }
     ensures front { OnErr result (BeginsWith out.new out.old) }
@@ -82,7 +82,7 @@ fn push_two_octets(number: u32, out: &mut Bytes) -> Result<(), AllocError>
 }
 
 // The last octet of a number, which has one to three digits.
-#[tactic(auto, using(crate::proofs::Octets::octet_digits))]
+#[tactic(auto, using(crate::proofs::WritingOctets::octet_digits))]
 fn push_octet(number: u32, out: &mut Bytes) -> Result<(), AllocError>
     ensures written { OnOk result (out.new ≡ out.old ++ decimal (number % 256)) }
     ensures kept { OnErr result (out.new ≡ out.old) }
@@ -130,7 +130,7 @@ fn group(address: u128) -> u16
     (address % (1 << 16)) as u16
 }
 
-#[tactic(auto, using(crate::proofs::Fronts::fronts), unfolding(crate::specs::Writing::grouped_text))]
+#[tactic(auto, using(crate::proofs::WritingFronts::fronts), unfolding(crate::specs::Writing::grouped_text))]
 fn push_grouped(groups: &[u16], out: &mut Bytes) -> Result<(), AllocError>
     requires { length groups.now ≡ 8 }
     ensures written { OnOk result (out.new ≡ out.old ++ grouped_text groups.now) }
@@ -140,7 +140,7 @@ fn push_grouped(groups: &[u16], out: &mut Bytes) -> Result<(), AllocError>
     push_gapped(run, groups, out)
 }
 
-#[tactic(auto, using(crate::proofs::Fronts::fronts))]
+#[tactic(auto, using(crate::proofs::WritingFronts::fronts))]
 fn push_gapped(run: Run, groups: &[u16], out: &mut Bytes) -> Result<(), AllocError>
     requires { run.start + run.count ≤ length groups.now }
     ensures written { OnOk result (out.new ≡ out.old ++ gapped_text run groups.now) }
@@ -154,7 +154,7 @@ fn push_gapped(run: Run, groups: &[u16], out: &mut Bytes) -> Result<(), AllocErr
     push_around_gap(left, right, out)
 }
 
-#[tactic(auto, using(crate::proofs::Fronts::fronts, crate::proofs::Fronts::front_behind_two))]
+#[tactic(auto, using(crate::proofs::WritingFronts::fronts, crate::proofs::WritingFronts::front_behind_two))]
 fn push_around_gap(left: &[u16], right: &[u16], out: &mut Bytes) -> Result<(), AllocError>
     ensures written { OnOk result (out.new ≡ out.old ++ (joined_groups left.now ++ 58 ∷ (58 ∷ joined_groups right.now))) }
     ensures front { OnErr result (BeginsWith out.new out.old) }
@@ -187,7 +187,7 @@ fn longest_run(groups: &[u16]) -> Run
     longest
 }
 
-#[tactic(auto, using(crate::proofs::Fronts::fronts))]
+#[tactic(auto, using(crate::proofs::WritingFronts::fronts))]
 fn push_groups(groups: &[u16], out: &mut Bytes) -> Result<(), AllocError>
     ensures written { OnOk result (out.new ≡ out.old ++ joined_groups groups.now) }
     ensures front { OnErr result (BeginsWith out.new out.old) }
@@ -202,7 +202,7 @@ fn push_groups(groups: &[u16], out: &mut Bytes) -> Result<(), AllocError>
 }
 
 // The groups behind the first one.
-#[tactic(auto, using(crate::proofs::Fronts::fronts))]
+#[tactic(auto, using(crate::proofs::WritingFronts::fronts))]
 fn push_more_groups(groups: &[u16], out: &mut Bytes) -> Result<(), AllocError>
     ensures written { OnOk result (out.new ≡ out.old ++ flat_map (λ g. 58 ∷ group_text g) groups.now) }
     ensures front { OnErr result (BeginsWith out.new out.old) }
@@ -213,7 +213,7 @@ fn push_more_groups(groups: &[u16], out: &mut Bytes) -> Result<(), AllocError>
     Ok(())
 }
 
-#[tactic(auto, using(crate::proofs::Fronts::fronts))]
+#[tactic(auto, using(crate::proofs::WritingFronts::fronts))]
 fn push_next_group(group: u16, out: &mut Bytes) -> Result<(), AllocError>
     ensures written { OnOk result (out.new ≡ out.old ++ 58 ∷ group_text group) }
     ensures front { OnErr result (BeginsWith out.new out.old) }

@@ -28,7 +28,7 @@ pub(crate) fn push_int(number: i64, out: &mut Bytes) -> Result<(), AllocError>
 }
 
 /// Puts nanoseconds behind the others, as seconds.
-#[tactic(auto, using(crate::proofs::Fronts::fronts), unfolding(crate::specs::Writing::span_text))]
+#[tactic(auto, using(crate::proofs::WritingFronts::fronts), unfolding(crate::specs::Writing::span_text))]
 pub(crate) fn push_span(nanoseconds: i64, out: &mut Bytes) -> Result<(), AllocError>
     ensures written { OnOk result (out.new ≡ out.old ++ span_text nanoseconds) }
     ensures front { OnErr result (BeginsWith out.new out.old) }
@@ -39,7 +39,7 @@ pub(crate) fn push_span(nanoseconds: i64, out: &mut Bytes) -> Result<(), AllocEr
     push_seconds(nanoseconds.unsigned_abs(), out)
 }
 
-#[tactic(auto, using(crate::proofs::Fronts::fronts))]
+#[tactic(auto, using(crate::proofs::WritingFronts::fronts))]
 fn push_seconds(nanoseconds: u64, out: &mut Bytes) -> Result<(), AllocError>
     ensures written { OnOk result (out.new ≡ out.old ++ seconds_text nanoseconds) }
     ensures front { OnErr result (BeginsWith out.new out.old) }

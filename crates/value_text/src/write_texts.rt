@@ -30,7 +30,7 @@ pub fn write_escaped(text: &[u8], out: &mut Bytes) -> Result<(), AllocError>
 }
 
 /// Puts the spelling of a text behind the others.
-#[tactic(auto, using(crate::proofs::Fronts::fronts))]
+#[tactic(auto, using(crate::proofs::WritingFronts::fronts))]
 pub(crate) fn push_text(place: Place, text: &[u8], out: &mut Bytes) -> Result<(), AllocError>
     ensures written { OnOk result (out.new ≡ out.old ++ text_text place text.now) }
     ensures front { OnErr result (BeginsWith out.new out.old) }
@@ -44,7 +44,7 @@ pub(crate) fn push_text(place: Place, text: &[u8], out: &mut Bytes) -> Result<()
     push_escaped(place, text, out)
 }
 
-#[tactic(auto, using(crate::proofs::Fronts::fronts, crate::proofs::Bare::bare_text))]
+#[tactic(auto, using(crate::proofs::WritingFronts::fronts, crate::proofs::WritingBare::bare_text))]
 fn push_escaped(place: Place, text: &[u8], out: &mut Bytes) -> Result<(), AllocError>
     ensures written { OnOk result (out.new ≡ out.old ++ flat_map (byte_text place) text.now) }
     ensures front { OnErr result (BeginsWith out.new out.old) }
@@ -78,7 +78,7 @@ fn is_bare(place: Place, byte: u8) -> bool
     }
 }
 
-#[tactic(auto, using(crate::proofs::Fronts::fronts))]
+#[tactic(auto, using(crate::proofs::WritingFronts::fronts))]
 fn push_each(place: Place, text: &[u8], out: &mut Bytes) -> Result<(), AllocError>
     ensures written { OnOk result (out.new ≡ out.old ++ flat_map (byte_text place) text.now) }
     ensures front { OnErr result (BeginsWith out.new out.old) }

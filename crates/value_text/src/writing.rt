@@ -36,7 +36,7 @@ pub fn write_cell(cell: &Cell, out: &mut Bytes) -> Result<(), AllocError>
     }
 }
 
-#[tactic(auto, using(crate::proofs::Fronts::fronts), unfolding(crate::specs::Writing::cell_text))]
+#[tactic(auto, using(crate::proofs::WritingFronts::fronts), unfolding(crate::specs::Writing::cell_text))]
 fn push_cell(cell: &Cell, out: &mut Bytes) -> Result<(), AllocError>
     ensures written { OnOk result (out.new ≡ out.old ++ cell_text cell.now) }
     ensures front { OnErr result (BeginsWith out.new out.old) }
@@ -48,7 +48,7 @@ fn push_cell(cell: &Cell, out: &mut Bytes) -> Result<(), AllocError>
     }
 }
 
-#[tactic(auto, using(crate::proofs::Fronts::fronts))]
+#[tactic(auto, using(crate::proofs::WritingFronts::fronts))]
 fn push_whole(value: &Value, out: &mut Bytes) -> Result<(), AllocError>
     ensures written { OnOk result (out.new ≡ out.old ++ (if is_empty_value value.now then codes "(empty)" else value_text Whole value.now)) }
     ensures front { OnErr result (BeginsWith out.new out.old) }
@@ -68,7 +68,7 @@ fn is_empty_value(value: &Value) -> bool
     }
 }
 
-#[tactic(auto, using(crate::proofs::Fronts::fronts), unfolding(crate::specs::Writing::cell_text))]
+#[tactic(auto, using(crate::proofs::WritingFronts::fronts), unfolding(crate::specs::Writing::cell_text))]
 fn push_items(items: &[Option<Value>], out: &mut Bytes) -> Result<(), AllocError>
     ensures written { OnOk result (out.new ≡ out.old ++ cell_text (Many items.now)) }
     ensures front { OnErr result (BeginsWith out.new out.old) }
@@ -83,7 +83,7 @@ fn push_items(items: &[Option<Value>], out: &mut Bytes) -> Result<(), AllocError
 }
 
 // The elements behind the first one.
-#[tactic(auto, using(crate::proofs::Fronts::fronts))]
+#[tactic(auto, using(crate::proofs::WritingFronts::fronts))]
 fn push_more(items: &[Option<Value>], out: &mut Bytes) -> Result<(), AllocError>
     ensures written { OnOk result (out.new ≡ out.old ++ flat_map (λ x. 44 ∷ element_text x) items.now) }
     ensures front { OnErr result (BeginsWith out.new out.old) }
@@ -94,7 +94,7 @@ fn push_more(items: &[Option<Value>], out: &mut Bytes) -> Result<(), AllocError>
     Ok(())
 }
 
-#[tactic(auto, using(crate::proofs::Fronts::fronts))]
+#[tactic(auto, using(crate::proofs::WritingFronts::fronts))]
 fn push_next(item: &Option<Value>, out: &mut Bytes) -> Result<(), AllocError>
     ensures written { OnOk result (out.new ≡ out.old ++ 44 ∷ element_text item.now) }
     ensures front { OnErr result (BeginsWith out.new out.old) }
@@ -103,7 +103,7 @@ fn push_next(item: &Option<Value>, out: &mut Bytes) -> Result<(), AllocError>
     push_element(item, out)
 }
 
-#[tactic(auto, using(crate::proofs::Fronts::fronts))]
+#[tactic(auto, using(crate::proofs::WritingFronts::fronts))]
 fn push_element(item: &Option<Value>, out: &mut Bytes) -> Result<(), AllocError>
     ensures written { OnOk result (out.new ≡ out.old ++ element_text item.now) }
     ensures front { OnErr result (BeginsWith out.new out.old) }
@@ -114,7 +114,7 @@ fn push_element(item: &Option<Value>, out: &mut Bytes) -> Result<(), AllocError>
     }
 }
 
-#[tactic(auto, using(crate::proofs::Fronts::fronts), unfolding(crate::specs::Writing::value_text))]
+#[tactic(auto, using(crate::proofs::WritingFronts::fronts), unfolding(crate::specs::Writing::value_text))]
 fn push_value(place: Place, value: &Value, out: &mut Bytes) -> Result<(), AllocError>
     ensures written { OnOk result (out.new ≡ out.old ++ value_text place value.now) }
     ensures front { OnErr result (BeginsWith out.new out.old) }

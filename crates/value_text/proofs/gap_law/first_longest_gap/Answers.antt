@@ -1,4 +1,4 @@
-use Rattle.value_text.proofs.GapLemmas.{first_longest}
+use Rattle.value_text.proofs.WritingGap.{first_longest}
 use Rattle.value_text.proofs.gap_law.first_longest_gap.Goals as goal
 
 pub returns : goal.returns
