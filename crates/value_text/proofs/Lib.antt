@@ -9,3 +9,14 @@ pub mod KindLemmas
 pub mod NetLemmas
 pub mod NumberLemmas
 pub mod OctetLemmas
+pub mod WritingAddresses
+pub mod WritingBare
+pub mod WritingCells
+pub mod WritingDotted
+pub mod WritingFronts
+pub mod WritingGap
+pub mod WritingGroups
+pub mod WritingNumbers
+pub mod WritingOctets
+pub mod WritingSubnets
+pub mod WritingTexts

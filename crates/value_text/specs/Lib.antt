@@ -5,3 +5,4 @@ pub mod Literals
 pub mod Numbers
 pub mod Places
 pub mod Reading
+pub mod Writing
