@@ -1,0 +1,8 @@
+//! The texts of queries.
+#![tactic(auto)]
+
+mod fault;
+mod lexeme;
+mod parser;
+
+pub use fault::{ParseEnd, QueryFault, QueryWhat};
