@@ -1,5 +1,4 @@
 pub mod Addresses
 pub mod Escapes
-pub mod Literals
 pub mod Numbers
 pub mod Reading
