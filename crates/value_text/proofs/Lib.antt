@@ -1,0 +1,9 @@
+pub mod AddressLemmas
+pub mod AnswerLemmas
+pub mod CutLemmas
+pub mod EscapeLemmas
+pub mod GapLemmas
+pub mod GroupLemmas
+pub mod NetLemmas
+pub mod NumberLemmas
+pub mod OctetLemmas

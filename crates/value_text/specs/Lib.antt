@@ -1,4 +1,6 @@
 pub mod Addresses
+pub mod Answers
 pub mod Escapes
 pub mod Numbers
+pub mod Places
 pub mod Reading

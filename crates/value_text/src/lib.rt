@@ -3,8 +3,15 @@
 //! The spellings are a profile of this project, after the form of Zeek's ASCII logs; addresses are spelled by RFC 4291.
 #![tactic(auto)]
 
+mod addresses;
+mod dotted;
 mod end;
+mod escapes;
+mod groups;
 mod marks;
+mod numbers;
+mod reading;
 
 pub use end::CellEnd;
 pub use marks::Marks;
+pub use reading::read_value;
