@@ -1,1 +1,2 @@
 pub mod ParsingLemmas
+pub mod TokenLemmas

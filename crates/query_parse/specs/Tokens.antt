@@ -8,17 +8,10 @@ use Rattle.query_meaning.specs.declared.expr.Rel.TheVariants.{Eq, Ne, Lt, Le, Gt
 use Rattle.query_meaning.specs.declared.expr.Literal.TheVariants.{Of}
 use Rattle.query_parse.specs.declared.lexeme.Lexeme.{Lexeme}
 use Rattle.query_parse.specs.declared.lexeme.Lexeme.TheVariants as lexeme
+use Rattle.query_parse.specs.declared.texts.Quoted.{Quoted}
+use Rattle.query_parse.specs.declared.texts.Taken.{Taken}
+use Rattle.query_parse.specs.declared.tokens.Piece.{Piece}
 use Rattle.query_parse.specs.Lexemes.{is_blank, is_word_byte, word_lexeme}
-
--- a token, and how many bytes it takes
-pub record Piece : Type 0 where
-  pub length : ℕ
-  pub lexeme : Lexeme
-
--- what a text holds, and how many bytes it takes up to its end and with it
-pub record Quoted : Type 0 where
-  pub content : List ℕ
-  pub length : ℕ
 
 abbrev pub put_byte : ℕ → ℕ → Option Quoted → Option Quoted
 put_byte count byte None = None
@@ -27,6 +20,19 @@ put_byte count byte (Some rest) = Some (record { content = byte ∷ rest.content
 -- A backslash takes a quote or a backslash behind it, or `xHH` for a byte; any other stays.
 abbrev pub is_pair : ℕ → ℕ → Bool
 is_pair a b = if a == 92 then (if b == 34 then true else b == 92) else false
+
+abbrev pub taken : ℕ → ℕ → Taken
+taken count byte = record { count = count; byte = byte }
+
+-- the first byte of a text, with its escape undone, and how many bytes it takes
+abbrev pub quote_step : List ℕ → Taken
+quote_step [] = taken 1 0
+quote_step (a ∷ []) = taken 1 a
+quote_step (a ∷ (b ∷ [])) = if is_pair a b then taken 2 b else taken 1 a
+quote_step (a ∷ (b ∷ (c ∷ []))) = if is_pair a b then taken 2 b else taken 1 a
+quote_step (a ∷ (b ∷ (c ∷ (d ∷ rest)))) =
+    if is_pair a b then taken 2 b
+    else (if a == 92 && is_byte_escape b c d then taken 4 (digit_value c * 16 + digit_value d) else taken 1 a)
 
 -- The text behind an opening quote, read from left to right. The first quote that no escape takes ends it.
 abbrev pub quoted : List ℕ → Option Quoted

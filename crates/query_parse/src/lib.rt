@@ -4,5 +4,8 @@
 mod fault;
 mod lexeme;
 mod parser;
+mod texts;
+mod tokens;
+mod words;
 
 pub use fault::{ParseEnd, QueryFault, QueryWhat};

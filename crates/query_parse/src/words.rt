@@ -1,5 +1,6 @@
 //! What the words of a query are.
-ghost use Rattle.std.specs.Prelude.{◌≡◌, IfOk};
+ghost use Rattle.std.specs.Prelude.{◌≡◌, ◌==◌, IfOk};
+ghost use Rattle.std.specs.Str.{IsAscii};
 ghost use Rattle.std.specs.List.{list_all, list_any};
 ghost use Rattle.query_parse.specs.Lexemes.{is_letter, is_word_byte, is_name_byte, is_name, elem_named, kind_picked, begins_literal, literal_or_bad, plain_word, word_lexeme, is_blank};
 ghost use Rattle.value_text.specs.Numbers.{is_digit};
@@ -142,57 +143,61 @@ fn kind_picked(word: &[u8]) -> Option<Elem>
 
 /// What a word is, by the first rule that applies.
 #[tactic(auto, unfolding(crate::specs::Lexemes::word_lexeme))]
-pub fn word_lexeme(alloc: Global, word: &str) -> Result<Lexeme, AllocError>
+pub fn word_lexeme(alloc: Global, word: &[u8]) -> Result<Lexeme, AllocError>
+    requires { IsAscii word.now }
     ensures { IfOk result (λ lexeme. lexeme ≡ word_lexeme word.now) }
 {
-    let bytes = word.as_bytes();
-    if bytes == b"in".as_slice() {
+    if word == b"in".as_slice() {
         return Ok(Lexeme::Rel(Rel::Within));
     }
-    if bytes == b"ni".as_slice() {
+    if word == b"ni".as_slice() {
         return Ok(Lexeme::Rel(Rel::Contains));
     }
-    if bytes == b"nil".as_slice() {
+    if word == b"nil".as_slice() {
         return Ok(Lexeme::Literal(Literal::Nil));
     }
-    if bytes == b"T".as_slice() {
+    if word == b"T".as_slice() {
         return Ok(Lexeme::Literal(Literal::Of(Value::Bool(true))));
     }
-    if bytes == b"F".as_slice() {
+    if word == b"F".as_slice() {
         return Ok(Lexeme::Literal(Literal::Of(Value::Bool(false))));
     }
-    if bytes == b"&type".as_slice() {
+    if word == b"&type".as_slice() {
         return Ok(Lexeme::Pick(Pick::TypeName));
     }
-    if bytes == b"&time".as_slice() {
+    if word == b"&time".as_slice() {
         return Ok(Lexeme::Pick(Pick::EventTime));
     }
-    match kind_picked(bytes) {
+    match kind_picked(word) {
         Some(elem) => Ok(Lexeme::Pick(Pick::OfKind(elem))),
         None => plain_word(alloc, word),
     }
 }
 
 // A literal, a name, or nothing.
-fn plain_word(alloc: Global, word: &str) -> Result<Lexeme, AllocError>
+fn plain_word(alloc: Global, word: &[u8]) -> Result<Lexeme, AllocError>
+    requires { IsAscii word.now }
     ensures { IfOk result (λ lexeme. lexeme ≡ plain_word word.now) }
 {
-    let bytes = word.as_bytes();
-    if begins_literal(bytes) {
+    if begins_literal(word) {
         return literal_or_bad(alloc, word);
     }
-    if !is_name(bytes) {
+    if !is_name(word) {
         return Ok(Lexeme::Unknown);
     }
     let mut name = Bytes::new(alloc);
-    name.append(bytes)?;
+    name.append(word)?;
     Ok(Lexeme::Pick(Pick::Named(name)))
 }
 
-fn literal_or_bad(alloc: Global, word: &str) -> Result<Lexeme, AllocError>
+fn literal_or_bad(alloc: Global, word: &[u8]) -> Result<Lexeme, AllocError>
+    requires { IsAscii word.now }
     ensures { IfOk result (λ lexeme. lexeme ≡ literal_or_bad word.now) }
 {
-    match read_literal(alloc, word) {
+    let Ok(text) = str::from_utf8(word) else {
+        return Ok(Lexeme::Bad);
+    };
+    match read_literal(alloc, text) {
         Ok(value) => Ok(Lexeme::Literal(Literal::Of(value))),
         Err(CellEnd::BadText) => Ok(Lexeme::Bad),
         Err(CellEnd::Memory) => Err(AllocError),

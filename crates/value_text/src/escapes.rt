@@ -15,8 +15,8 @@ pub(crate) fn has_backslash(raw: &[u8]) -> bool
     raw.iter().any(|byte| *byte == b'\\')
 }
 
-// The byte of `xHH` behind a backslash.
-fn escaped_byte(x: u8, high: u8, low: u8) -> Option<u8>
+/// The byte of `xHH` behind a backslash, with hexadecimal digits in either case.
+pub fn escaped_byte(x: u8, high: u8, low: u8) -> Option<u8>
     ensures { result ≡ (if is_byte_escape x high low then Some (digit_value high * 16 + digit_value low) else None) }
 {
     if x != b'x' {

@@ -8,10 +8,11 @@ mod dotted;
 mod end;
 mod escapes;
 mod groups;
+mod literals;
 mod marks;
 mod numbers;
-mod reading;
 
 pub use end::CellEnd;
+pub use escapes::escaped_byte;
+pub use literals::read_literal;
 pub use marks::Marks;
-pub use reading::read_value;
