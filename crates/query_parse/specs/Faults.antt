@@ -3,6 +3,8 @@ use Rattle.std.specs.Prelude.{◌≡◌, ◌≢◌, ℕ, ◌≤◌, ◌<◌, Boo
 use Rattle.std.specs.List.{list_all}
 use Rattle.query_meaning.specs.declared.expr.Test.{Test}
 use Rattle.query_meaning.specs.Agreement.{agrees}
+use Rattle.query_parse.specs.declared.fault.ParseEnd.{ParseEnd}
+use Rattle.query_parse.specs.declared.fault.ParseEnd.TheVariants.{Fault, Memory}
 use Rattle.query_parse.specs.declared.fault.QueryWhat.{QueryWhat}
 use Rattle.query_parse.specs.declared.fault.QueryWhat.TheVariants.{Unexpected, BadLiteral, KindClash, TooDeep, TooLong}
 use Rattle.query_parse.specs.declared.lexeme.Lexeme.{Lexeme}
@@ -95,3 +97,8 @@ IsFault text at Unexpected = (length text ≤ 65536) × Stops (tokens_of text) a
 IsFault text at BadLiteral = (length text ≤ 65536) × Stops (tokens_of text) at IsBad
 IsFault text at TooDeep = (length text ≤ 65536) × Stops (tokens_of text) at IsTooDeep
 IsFault text at KindClash = (length text ≤ 65536) × Clashes (tokens_of text) at
+
+-- a refusal is the leftmost fault
+abbrev pub Refuses : List ℕ → ParseEnd → Type 0
+Refuses text (Fault fault) = IsFault text fault.at fault.what
+Refuses text Memory = Unit {0}

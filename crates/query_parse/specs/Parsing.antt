@@ -1,6 +1,6 @@
 -- Reading tokens from left to right. That what is so read is in the grammar, that nothing in it is refused, and that a
 -- refusal is the leftmost fault, is proved of these words; no clause of the public call names one.
-use Rattle.std.specs.Prelude.{ℕ, zero, suc, ◌+◌, ◌-◌, Bool, true, false, ◌&&◌, if◌then◌else◌, List, [], ◌∷◌, ◌++◌, Option, None, Some, Result, Ok, Err, nat_lt, ◌≡◌}
+use Rattle.std.specs.Prelude.{ℕ, zero, suc, ◌+◌, ◌-◌, Bool, true, false, ◌&&◌, if◌then◌else◌, List, [], ◌∷◌, ◌++◌, Option, None, Some, Result, Ok, Err, length, drop, nat_lt, ◌≡◌, ◌<◌, ◌≤◌}
 use Rattle.std.specs.Option.{option_map}
 use Rattle.query_meaning.specs.declared.expr.Expr.{Expr, roll-Expr}
 use Rattle.query_meaning.specs.declared.expr.Expr.TheOpen as level
@@ -21,7 +21,7 @@ use Rattle.query_parse.specs.declared.parser.Parser.{Parser}
 use Rattle.query_parse.specs.declared.parser.Phase.{Phase}
 use Rattle.query_parse.specs.declared.parser.Phase.TheVariants.{Start, Picked, Related, Valued, Reversed, Whole}
 use Rattle.query_parse.specs.Grammar.{joined_and, joined_or, test_of, turned}
-use Rattle.query_parse.specs.Tokens.{Token}
+use Rattle.query_parse.specs.Tokens.{Token, tokens_in}
 
 abbrev pub fresh : Group
 fresh = record { ors = []; ands = []; nots = 0 }
@@ -161,3 +161,14 @@ abbrev pub Reached : Result Expr QueryFault → Result Expr ParseEnd → Type 0
 Reached reading (Ok e) = reading ≡ Ok e
 Reached reading (Err (Fault f)) = reading ≡ Err f
 Reached reading (Err Memory) = Unit {0}
+
+-- A blank or a token was read, and its bytes are behind: what the rest gives is what the whole gives.
+pub record Moves (old new : Parser) (at : ℕ) (text : List ℕ) (count : ℕ) : Type 0 where
+  pub some : 0 < count
+  pub within : count ≤ length text
+  pub is : (turns : ℕ) → run old (tokens_in (suc turns) at text) ≡ run new (tokens_in turns (at + count) (drop count text))
+
+abbrev pub ReadsOn : Parser → Parser → ℕ → List ℕ → Result ℕ ParseEnd → Type 0
+ReadsOn old new at text (Ok count) = Moves old new at text count
+ReadsOn old new at text (Err (Fault f)) = (turns : ℕ) → run old (tokens_in (suc turns) at text) ≡ Err f
+ReadsOn old new at text (Err Memory) = Unit {0}

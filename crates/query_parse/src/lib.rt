@@ -4,8 +4,10 @@
 mod fault;
 mod lexeme;
 mod parser;
+mod query;
 mod texts;
 mod tokens;
 mod words;
 
 pub use fault::{ParseEnd, QueryFault, QueryWhat};
+pub use query::parse;

@@ -25,7 +25,8 @@ pub struct Taken {
 
 /// The text behind an opening quote, and its length.
 pub fn text_piece(alloc: Global, rest: &[u8]) -> Result<Piece, AllocError>
-    ensures { IfOk result (λ piece. piece ≡ text_piece rest.now (quoted rest.now)) }
+    ensures value { IfOk result (λ piece. piece ≡ text_piece rest.now (quoted rest.now)) }
+    ensures within { IfOk result (λ piece. piece.length ≤ 1 + length rest.now) }
 {
     match read_quoted(alloc, rest)? {
         None => Ok(Piece {

@@ -1,5 +1,5 @@
 //! The tokens of a query.
-ghost use Rattle.std.specs.Prelude.{◌≡◌, ◌≤◌, ◌<◌, ◌+◌, ◌∷◌, if◌then◌else◌, length, take, IfOk};
+ghost use Rattle.std.specs.Prelude.{◌≡◌, ◌≤◌, ◌<◌, ◌+◌, ◌∷◌, if◌then◌else◌, length, take, true, IfOk};
 ghost use Rattle.std.specs.List.{prefix_len};
 ghost use Rattle.std.specs.Str.{IsAscii};
 ghost use Rattle.query_parse.specs.Lexemes.{is_word_byte};
@@ -23,6 +23,7 @@ pub struct Piece {
 pub fn next_piece(alloc: Global, text: &[u8], first: u8, behind: &[u8]) -> Result<Piece, AllocError>
     requires { text.now ≡ first ∷ behind.now }
     ensures piece { IfOk result (λ piece. piece ≡ piece_of first behind.now) }
+    ensures within { IfOk result (λ piece. piece.length ≤ length text.now) }
 {
     if first == b'=' {
         return Ok(either(behind, b'=', Lexeme::Rel(Rel::Eq), Lexeme::Unknown));
@@ -71,7 +72,8 @@ fn double(lexeme: Lexeme) -> Piece
 
 // The token of two bytes where the second follows, else that of one.
 fn either(behind: &[u8], second: u8, two: Lexeme, one: Lexeme) -> Piece
-    ensures { result ≡ (if is_next second behind.now then double_piece two else short_piece one) }
+    ensures value { result ≡ (if is_next second behind.now then double_piece two else short_piece one) }
+    ensures within { result.length ≤ 1 + length behind.now }
 {
     if is_next(second, behind) {
         return double(two);
@@ -80,7 +82,8 @@ fn either(behind: &[u8], second: u8, two: Lexeme, one: Lexeme) -> Piece
 }
 
 pub(crate) fn is_next(byte: u8, behind: &[u8]) -> bool
-    ensures { result ≡ is_next byte behind.now }
+    ensures value { result ≡ is_next byte behind.now }
+    ensures some { result ≡ true → 0 < length behind.now }
 {
     match behind {
         [] => false,
@@ -91,7 +94,8 @@ pub(crate) fn is_next(byte: u8, behind: &[u8]) -> bool
 // A word, which is this byte and those behind it.
 fn word_piece(alloc: Global, text: &[u8], first: u8, behind: &[u8]) -> Result<Piece, AllocError>
     requires { text.now ≡ first ∷ behind.now }
-    ensures { IfOk result (λ piece. piece ≡ word_piece text.now) }
+    ensures value { IfOk result (λ piece. piece ≡ word_piece text.now) }
+    ensures within { IfOk result (λ piece. piece.length ≤ length text.now) }
 {
     let length = word_length(text, first, behind);
     let (word, _) = text.split_at(length);
