@@ -1,1 +1,2 @@
 pub mod PickLemmas
+pub mod TextLemmas

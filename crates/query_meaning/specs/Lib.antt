@@ -1,2 +1,5 @@
+pub mod Agreement
+pub mod Laws
 pub mod Meaning
 pub mod Picks
+pub mod Relations

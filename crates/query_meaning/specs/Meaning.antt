@@ -1,35 +1,23 @@
 -- When a query matches an event.
-use Rattle.std.specs.Prelude.{ℕ, Bool, true, false, not, ◌==◌, List, [], ◌∷◌}
+use Rattle.std.specs.Prelude.{ℕ, Bool, true, false, not, List, [], ◌∷◌}
 use Rattle.std.specs.List.{list_all, list_any}
-use Rattle.std.specs.Str.{bytes_eq}
-use Rattle.vast_value.specs.declared.value.Value.{Value}
+use Rattle.vast_value.specs.declared.kind.Elem.{Elem}
+use Rattle.vast_value.specs.declared.kind.Elem.TheVariants as elem
+use Rattle.vast_value.specs.declared.kind.Kind.{Kind}
+use Rattle.vast_value.specs.declared.kind.Kind.TheVariants as kind
 use Rattle.vast_value.specs.declared.value.Value.TheVariants as value
 use Rattle.vast_value.specs.declared.cell.Cell.{Cell}
 use Rattle.vast_value.specs.declared.cell.Cell.TheVariants as cell
 use Rattle.vast_value.specs.Headings.{Field, Heading}
+use Rattle.vast_value.specs.Kinds.{elem_eq}
 use Rattle.query_meaning.specs.declared.expr.Expr.{Expr, fold-Expr}
 use Rattle.query_meaning.specs.declared.expr.Expr.TheOpen.{Expr-F}
 use Rattle.query_meaning.specs.declared.expr.Expr.TheOpen as level
 use Rattle.query_meaning.specs.declared.expr.Test.{Test}
 use Rattle.query_meaning.specs.declared.expr.Pick.{Pick}
 use Rattle.query_meaning.specs.declared.expr.Pick.TheVariants.{OfKind, Named, TypeName, EventTime}
-use Rattle.query_meaning.specs.declared.expr.Rel.{Rel}
-use Rattle.query_meaning.specs.declared.expr.Rel.TheVariants.{Eq, Ne, Lt, Le, Gt, Ge, Within, Contains}
-use Rattle.query_meaning.specs.declared.expr.Literal.{Literal}
-use Rattle.query_meaning.specs.declared.expr.Literal.TheVariants.{Nil, Of}
 use Rattle.query_meaning.specs.Picks.{is_named}
-
--- Equal values: counts of one number, and texts of the same bytes, where a text goes with names too.
-abbrev pub equals : Value → Value → Bool
-equals (value.Count n) (value.Count m) = n == m
-equals (value.Text t) (value.Text u) = bytes_eq t u
-equals (value.Text t) (value.Name u) = bytes_eq t u
-equals _ _ = false
-
--- An unset cell, and a cell of another kind than the relation is about, meets no relation.
-abbrev pub meets : Rel → Literal → Cell → Bool
-meets Eq (Of literal) (cell.One v) = equals literal v
-meets _ _ _ = false
+use Rattle.query_meaning.specs.Relations.{meets}
 
 abbrev pub cells_if : Bool → Cell → List Cell → List Cell
 cells_if true x xs = x ∷ xs
@@ -42,10 +30,31 @@ named_cells path (f ∷ fs) [] name = []
 named_cells path (f ∷ fs) (x ∷ xs) name =
     cells_if (is_named path f.name name) x (named_cells path fs xs name)
 
--- the cells that a pick chooses
+-- the column is of single values of the kind
+abbrev pub is_of : Elem → Kind → Bool
+is_of e (kind.One f) = elem_eq f e
+is_of e _ = false
+
+-- the cells of the columns of a kind
+abbrev pub cells_of_kind : Elem → List Field → List Cell → List Cell
+cells_of_kind e [] xs = []
+cells_of_kind e (f ∷ fs) [] = []
+cells_of_kind e (f ∷ fs) (x ∷ xs) = cells_if (is_of e f.kind) x (cells_of_kind e fs xs)
+
+abbrev pub first_or_unset : List Cell → Cell
+first_or_unset [] = cell.Unset
+first_or_unset (x ∷ xs) = x
+
+-- The event's time is the first cell of kind time in its layout, unset if there is none.
+abbrev pub event_time : List Field → List Cell → Cell
+event_time fields cells = first_or_unset (cells_of_kind elem.Time fields cells)
+
+-- The cells that a pick chooses. The path counts as a string cell.
 abbrev pub chosen : Pick → Heading → List Cell → List Cell
+chosen (OfKind e) heading cells = cells_of_kind e heading.fields cells
 chosen (Named name) heading cells = named_cells heading.path heading.fields cells name
-chosen _ heading cells = []
+chosen TypeName heading cells = cell.One (value.Text heading.path) ∷ []
+chosen EventTime heading cells = event_time heading.fields cells ∷ []
 
 -- A test holds where some chosen cell meets the relation.
 abbrev pub test_holds : Test → Heading → List Cell → Bool

@@ -1,22 +1,26 @@
 //! When a query matches an event.
-ghost use Rattle.std.specs.Prelude.{◌≡◌, length, map, IsTrue};
+ghost use Rattle.std.specs.Prelude.{◌≡◌, length, map, IsTrue, MatchOption};
 ghost use Rattle.std.specs.List.{list_any};
-ghost use Rattle.std.specs.Str.{bytes_eq};
+ghost use Rattle.vast_value.specs.declared.cell.Cell.{Cell};
+ghost use Rattle.vast_value.specs.declared.cell.Cell.TheVariants as cell;
 ghost use Rattle.vast_value.specs.Fit.{fits_columns};
 ghost use Rattle.vast_value.specs.Headings.{heading_of, field_of};
-ghost use Rattle.query_meaning.specs.Meaning.{holds, test_holds, meets, equals, named_cells};
+ghost use Rattle.query_meaning.specs.Laws.{TwiceNot, AllOrSome};
+ghost use Rattle.query_meaning.specs.Meaning.{holds, test_holds, named_cells, cells_of_kind, event_time, is_of};
+ghost use Rattle.query_meaning.specs.Relations.{meets};
 
 use crate::expr::{Expr, Literal, Pick, Rel, Test};
 use crate::picks::is_named;
-use vast_value::{Bytes, Cell, Layout, Row, Value};
+use crate::relations::{meets, text_meets};
+use vast_value::{Cell, Column, Elem, Kind, Layout, Row};
 
 /// Whether the event of this layout and row, which fits it, matches the query.
 ///
-/// A test holds where some cell of a column that it names equals its count or its text. Every other relation, and every
-/// other pick, holds of nothing here.
+/// A test holds where some cell that its pick chooses meets the relation to the literal. `And` and `Or` hold where all
+/// or some of their members do, and `Not` where its member does not.
 pub fn holds(expr: &Expr, layout: &Layout, row: &Row) -> bool
     requires { IsTrue (fits_columns layout.now.columns row.now) }
-    ensures { result ≡ holds (heading_of layout.now) row.now expr.now }
+    ensures value { result ≡ holds (heading_of layout.now) row.now expr.now }
 {
     match expr {
         Expr::Test(test) => test_holds(test, layout, row),
@@ -40,14 +44,71 @@ pub fn holds(expr: &Expr, layout: &Layout, row: &Row) -> bool
     }
 }
 
+/// The law of `!`: twice is none. And the law of members: `&&` is all of them, `||` some.
+pub fn members_and_not(expr: &Expr, members: &[Expr])
+    ensures twice { TwiceNot expr.now }
+    ensures lists { AllOrSome members.now }
+{
+    let _ = expr;
+    let _ = members;
+}
+
 fn test_holds(test: &Test, layout: &Layout, row: &Row) -> bool
     requires { IsTrue (fits_columns layout.now.columns row.now) }
     ensures { result ≡ test_holds test.now (heading_of layout.now) row.now }
 {
     match &test.pick {
+        Pick::OfKind(elem) => kind_meets(test, layout.columns(), row.as_slice(), *elem),
         Pick::Named(name) => named_meets(test, layout, row.as_slice(), name.as_slice()),
+        Pick::TypeName => text_meets(test.rel, &test.literal, layout.path()),
+        Pick::EventTime => time_meets(test.rel, &test.literal, layout.columns(), row.as_slice()),
+    }
+}
+
+fn kind_meets(test: &Test, columns: &[Column], cells: &[Cell], elem: Elem) -> bool
+    requires { length columns.now ≡ length cells.now }
+    ensures { result ≡ list_any (meets test.now.rel test.now.literal) (cells_of_kind elem (map field_of columns.now) cells.now) }
+{
+    for (at, column) in columns.iter().enumerate() {
+        let cell = &cells[at];
+        if is_of(elem, column.kind) && meets(test.rel, &test.literal, cell) {
+            return true;
+        }
+    }
+    false
+}
+
+fn is_of(elem: Elem, kind: Kind) -> bool
+    ensures { result ≡ is_of elem kind }
+{
+    match kind {
+        Kind::One(own) => own.is(elem),
         _ => false,
     }
+}
+
+fn time_meets(rel: Rel, literal: &Literal, columns: &[Column], cells: &[Cell]) -> bool
+    requires { length columns.now ≡ length cells.now }
+    ensures { result ≡ meets rel literal.now (event_time (map field_of columns.now) cells.now) }
+{
+    match event_time(columns, cells) {
+        Some(cell) => meets(rel, literal, cell),
+        None => meets(rel, literal, &Cell::Unset),
+    }
+}
+
+// The first cell of kind time. Where there is none the event's time is unset.
+fn event_time<'a>(columns: &[Column], cells: &'a [Cell]) -> Option<&'a Cell>
+    requires { length columns.now ≡ length cells.now }
+    ensures { MatchOption result (event_time (map field_of columns.now) cells.now ≡ cell.Unset) (λ x. x.now ≡ event_time (map field_of columns.now) cells.now) }
+{
+    for (at, column) in columns.iter().enumerate() {
+        let cell = &cells[at];
+        if is_of(Elem::Time, column.kind) {
+            return Some(cell);
+        }
+    }
+    None
 }
 
 fn named_meets(test: &Test, layout: &Layout, cells: &[Cell], name: &[u8]) -> bool
@@ -64,31 +125,4 @@ fn named_meets(test: &Test, layout: &Layout, cells: &[Cell], name: &[u8]) -> boo
         }
     }
     false
-}
-
-/// Whether a cell meets a relation to a literal.
-pub fn meets(rel: Rel, literal: &Literal, cell: &Cell) -> bool
-    ensures { result ≡ meets rel literal.now cell.now }
-{
-    match (rel, literal, cell) {
-        (Rel::Eq, Literal::Of(literal), Cell::One(value)) => equals(literal, value),
-        _ => false,
-    }
-}
-
-fn equals(literal: &Value, value: &Value) -> bool
-    ensures { result ≡ equals literal.now value.now }
-{
-    match (literal, value) {
-        (Value::Count(n), Value::Count(m)) => n == m,
-        (Value::Text(t), Value::Text(u)) => same_text(t, u),
-        (Value::Text(t), Value::Name(u)) => same_text(t, u),
-        _ => false,
-    }
-}
-
-fn same_text(a: &Bytes, b: &Bytes) -> bool
-    ensures { result ≡ bytes_eq a.now b.now }
-{
-    a.as_slice() == b.as_slice()
 }

@@ -1,7 +1,8 @@
 use Rattle.std.proofs.Common.{◌≡◌, map, drop}
 use Rattle.std.specs.List.{list_any}
 use Rattle.vast_value.specs.Headings.{field_of}
-use Rattle.query_meaning.specs.Meaning.{meets, named_cells}
+use Rattle.query_meaning.specs.Meaning.{named_cells}
+use Rattle.query_meaning.specs.Relations.{meets}
 use Rattle.query_meaning.proofs.meaning.named_meets.Given as goal
 
 abbrev pub invariant-loop-at : goal.invariant-loop-at

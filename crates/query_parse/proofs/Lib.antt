@@ -1,0 +1,3 @@
+pub mod ParsingLemmas
+pub mod PieceLemmas
+pub mod TokenLemmas

@@ -1,0 +1,90 @@
+//! From a text to an expression.
+ghost use Rattle.std.specs.Prelude.{◌≡◌, ◌≤◌, ◌<◌, ◌∷◌, length, IfOk, IfErr};
+ghost use Rattle.query_parse.specs.Faults.{Refuses};
+ghost use Rattle.query_parse.specs.Grammar.{Reads};
+ghost use Rattle.query_parse.specs.Parsing.{run, start, Reached, ReadsOn};
+ghost use Rattle.query_parse.specs.Tokens.{tokens_of, lexemes_of};
+
+use crate::fault::{ParseEnd, QueryWhat};
+use crate::parser::{Parser, fault};
+use crate::tokens::{Piece, next_piece};
+use crate::words::is_blank;
+use query_meaning::Expr;
+use std::alloc::Global;
+
+/// The longest text of a query, in bytes.
+const LONGEST: usize = 65_536;
+
+/// The expression that a text is a query of, or its leftmost fault.
+///
+/// ```text
+/// expr = conj { "||" conj }     conj = unit { "&&" unit }     unit = "!" unit | "(" expr ")" | test
+/// test = pick rel literal | literal rel pick
+/// ```
+///
+/// Blanks part tokens. Two or more members make one list, parentheses leave no node, and the reversed form is turned.
+/// At most 64 `!` and parentheses are open at once, and the text has at most 65,536 bytes.
+pub fn parse(alloc: Global, text: &str) -> Result<Expr, ParseEnd>
+    ensures reads { IfOk result (λ expr. Reads (lexemes_of text.now) expr) }
+    ensures fault { IfErr result (λ end. Refuses text.now end) }
+{
+    let bytes = text.as_bytes();
+    if bytes.len() > LONGEST {
+        return Err(fault(65_536, QueryWhat::TooLong));
+    }
+    read(alloc, bytes)
+}
+
+// Reads the tokens from left to right.
+fn read(alloc: Global, text: &[u8]) -> Result<Expr, ParseEnd>
+    requires { length text.now ≤ 65536 }
+    ensures { Reached (run start (tokens_of text.now)) result }
+{
+    let mut parser = Parser::new(alloc);
+    let mut at = 0;
+    while at < text.len() {
+        let (_, left) = text.split_at(at);
+        match read_token(alloc, &mut parser, at as u32, left) {
+            Ok(count) => at += count,
+            Err(end) => return Err(end),
+        }
+    }
+    parser.finish(at as u32)
+}
+
+// Reads a blank or a token, and answers how many bytes it took.
+fn read_token(alloc: Global, parser: &mut Parser, at: u32, left: &[u8]) -> Result<usize, ParseEnd>
+    requires { 0 < length left.now }
+    ensures { ReadsOn parser.old parser.new at left.now result }
+{
+    match left {
+        [first, behind @ ..] => read_first(alloc, parser, at, left, *first, behind),
+        [] => Err(ParseEnd::Memory),
+    }
+}
+
+// The same of a text that is this byte and those behind it.
+#[tactic(auto, using(crate::proofs::PieceLemmas::blank_moves, crate::proofs::PieceLemmas::token_moves, crate::proofs::PieceLemmas::token_refuses))]
+fn read_first(
+    alloc: Global,
+    parser: &mut Parser,
+    at: u32,
+    left: &[u8],
+    first: u8,
+    behind: &[u8],
+) -> Result<usize, ParseEnd>
+    requires { left.now ≡ first ∷ behind.now }
+    ensures { ReadsOn parser.old parser.new at left.now result }
+{
+    if is_blank(first) {
+        return Ok(1);
+    }
+    let Ok(piece) = next_piece(alloc, left, first, behind) else {
+        return Err(ParseEnd::Memory);
+    };
+    let Piece { length, lexeme } = piece;
+    match parser.take(alloc, at, lexeme) {
+        Ok(()) => Ok(length),
+        Err(end) => Err(end),
+    }
+}
