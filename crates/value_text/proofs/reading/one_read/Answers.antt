@@ -4,7 +4,7 @@ use Rattle.vast_value.specs.Fit.{is_short}
 use Rattle.vast_value.proofs.ByteLemmas.{short_text}
 use Rattle.value_text.specs.Escapes.{unescaped}
 use Rattle.value_text.proofs.EscapeLemmas.{short-unescaped}
-use Rattle.value_text.proofs.reading.set_read.Goals as goal
+use Rattle.value_text.proofs.reading.one_read.Goals as goal
 
 pub returns-in_ok-text_read-in-Text-clause-bounded : goal.returns-in_ok-text_read-in-Text-clause-bounded
 returns-in_ok-text_read-in-Text-clause-bounded c = λ few.

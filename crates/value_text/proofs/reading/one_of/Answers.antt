@@ -1,7 +1,7 @@
 use Rattle.std.proofs.Common.{◌≡◌, sym, subst, IsTrue}
 use Rattle.vast_value.specs.Fit.{is_short}
 use Rattle.vast_value.proofs.ByteLemmas.{short_text}
-use Rattle.value_text.proofs.reading.value_of.Goals as goal
+use Rattle.value_text.proofs.reading.one_of.Goals as goal
 
 pub returns-in_ok-copied-in-Text-clause-bounded : goal.returns-in_ok-copied-in-Text-clause-bounded
 returns-in_ok-copied-in-Text-clause-bounded c = λ few.
