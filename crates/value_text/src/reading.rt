@@ -37,6 +37,37 @@ fn copied(alloc: Global, text: &[u8]) -> Result<Bytes, AllocError>
     Ok(copy)
 }
 
+// Kinds whose values are large have functions of their own, so that the others need not make room for them.
+#[inline(never)]
+#[tactic(auto, unfolding(crate::specs::Reading::value_read))]
+fn copied_text(alloc: Global, text: &[u8]) -> Result<Cell, CellEnd>
+    ensures value { Gives result (option_map Cell.One (value_read Elem.Text text.now)) }
+    ensures bounded { length text.now ≤ 2 ^ 24 → IfOk result (λ cell. IsTrue (is_small cell)) }
+{
+    Ok(Cell::One(Value::Text(copied(alloc, text)?)))
+}
+
+#[inline(never)]
+#[tactic(auto, unfolding(crate::specs::Reading::value_read))]
+fn copied_name(alloc: Global, text: &[u8]) -> Result<Cell, CellEnd>
+    ensures value { Gives result (option_map Cell.One (value_read Elem.Name text.now)) }
+    ensures bounded { length text.now ≤ 2 ^ 24 → IfOk result (λ cell. IsTrue (is_small cell)) }
+{
+    Ok(Cell::One(Value::Name(copied(alloc, text)?)))
+}
+
+#[inline(never)]
+#[tactic(auto, unfolding(crate::specs::Reading::value_read))]
+fn subnet_one(text: &[u8]) -> Result<Cell, CellEnd>
+    ensures value { Gives result (option_map Cell.One (value_read Elem.Subnet text.now)) }
+    ensures bounded { length text.now ≤ 2 ^ 24 → IfOk result (λ cell. IsTrue (is_small cell)) }
+{
+    match subnet_of(text) {
+        None => Err(CellEnd::BadText),
+        Some(net) => Ok(Cell::One(Value::Subnet(net))),
+    }
+}
+
 // The cell of the value that a text spells, its escapes being undone. The cell is made at once, since a value that is put
 // into a cell later is moved twice.
 #[tactic(auto, unfolding(crate::specs::Reading::value_read))]
@@ -66,16 +97,13 @@ fn one_of(alloc: Global, elem: Elem, text: &[u8]) -> Result<Cell, CellEnd>
             None => Err(CellEnd::BadText),
             Some(span) => Ok(Cell::One(Value::Span(span))),
         },
-        Elem::Text => Ok(Cell::One(Value::Text(copied(alloc, text)?))),
-        Elem::Name => Ok(Cell::One(Value::Name(copied(alloc, text)?))),
+        Elem::Text => copied_text(alloc, text),
+        Elem::Name => copied_name(alloc, text),
         Elem::Addr => match address_of(text) {
             None => Err(CellEnd::BadText),
             Some(address) => Ok(Cell::One(Value::Addr(address))),
         },
-        Elem::Subnet => match subnet_of(text) {
-            None => Err(CellEnd::BadText),
-            Some(net) => Ok(Cell::One(Value::Subnet(net))),
-        },
+        Elem::Subnet => subnet_one(text),
         Elem::Port => match number_up_to(u16::MAX as u64, text) {
             None => Err(CellEnd::BadText),
             Some(number) => Ok(Cell::One(Value::Port(number as u16))),
@@ -145,6 +173,24 @@ fn escaped_read(alloc: Global, elem: Elem, raw: &[u8]) -> Result<Cell, CellEnd>
     one_of(alloc, elem, raw)
 }
 
+#[inline(never)]
+#[tactic(auto, unfolding(crate::specs::Reading::value_read))]
+fn text_one(alloc: Global, marks: &Marks, raw: &[u8]) -> Result<Cell, CellEnd>
+    ensures value { Gives result (option_map Cell.One (set_read marks.now Elem.Text raw.now)) }
+    ensures bounded { length raw.now ≤ 2 ^ 24 → IfOk result (λ cell. IsTrue (is_small cell)) }
+{
+    Ok(Cell::One(Value::Text(text_read(alloc, marks, raw)?)))
+}
+
+#[inline(never)]
+#[tactic(auto, unfolding(crate::specs::Reading::value_read))]
+fn name_one(alloc: Global, marks: &Marks, raw: &[u8]) -> Result<Cell, CellEnd>
+    ensures value { Gives result (option_map Cell.One (set_read marks.now Elem.Name raw.now)) }
+    ensures bounded { length raw.now ≤ 2 ^ 24 → IfOk result (λ cell. IsTrue (is_small cell)) }
+{
+    Ok(Cell::One(Value::Name(text_read(alloc, marks, raw)?)))
+}
+
 // The cell of a value that is not unset.
 #[tactic(auto, unfolding(crate::specs::Reading::value_read))]
 #[inline(always)]
@@ -153,8 +199,8 @@ fn one_read(alloc: Global, elem: Elem, marks: &Marks, raw: &[u8]) -> Result<Cell
     ensures bounded { length raw.now ≤ 2 ^ 24 → IfOk result (λ cell. IsTrue (is_small cell)) }
 {
     match elem {
-        Elem::Text => Ok(Cell::One(Value::Text(text_read(alloc, marks, raw)?))),
-        Elem::Name => Ok(Cell::One(Value::Name(text_read(alloc, marks, raw)?))),
+        Elem::Text => text_one(alloc, marks, raw),
+        Elem::Name => name_one(alloc, marks, raw),
         _ => escaped_read(alloc, elem, raw),
     }
 }
