@@ -312,6 +312,9 @@ fn cell_read(alloc: Global, kind: Kind, marks: &Marks, raw: &[u8]) -> Result<Cel
 /// or the empty string or enum. Any other container is cut at each set separator into elements, of which one equal to the
 /// unset text is unset, and one equal to the empty text is the empty string or enum. All else has its escapes undone
 /// and is read by [`read_value`].
+///
+/// Fewer than 2^24 raw bytes give texts and containers that a row may hold; 2^24 set separators would give one element too
+/// many.
 pub fn read_cell(alloc: Global, kind: Kind, marks: &Marks, raw: &[u8]) -> Result<Cell, CellEnd>
     ensures cell { IfOk result (λ cell. cell_read marks.now kind raw.now ≡ Some cell) }
     ensures bad { IsErrOf result CellEnd.BadText → cell_read marks.now kind raw.now ≡ None }
