@@ -1,9 +1,7 @@
 //! From a text to an expression.
-ghost use Rattle.std.specs.Prelude.{◌≡◌, ◌≤◌, ◌<◌, ◌∷◌, length, IfOk, IfErr};
-ghost use Rattle.query_parse.specs.Faults.{Refuses};
-ghost use Rattle.query_parse.specs.Grammar.{Reads};
-ghost use Rattle.query_parse.specs.Parsing.{run, start, Reached, ReadsOn};
-ghost use Rattle.query_parse.specs.Tokens.{tokens_of, lexemes_of};
+ghost use Rattle.std.specs.Prelude.{◌≡◌, ◌≤◌, ◌<◌, ◌∷◌, length};
+ghost use Rattle.query_parse.specs.Parsing.{run, start, Reached, ReadsOn, Parses};
+ghost use Rattle.query_parse.specs.Tokens.{tokens_of};
 
 use crate::fault::{ParseEnd, QueryWhat};
 use crate::parser::{Parser, fault};
@@ -24,9 +22,9 @@ const LONGEST: usize = 65_536;
 ///
 /// Blanks part tokens. Two or more members make one list, parentheses leave no node, and the reversed form is turned.
 /// At most 64 `!` and parentheses are open at once, and the text has at most 65,536 bytes.
+#[tactic(auto, unfolding(crate::specs::Parsing::parsed))]
 pub fn parse(alloc: Global, text: &str) -> Result<Expr, ParseEnd>
-    ensures reads { IfOk result (λ expr. Reads (lexemes_of text.now) expr) }
-    ensures fault { IfErr result (λ end. Refuses text.now end) }
+    ensures exact { Parses text.now result }
 {
     let bytes = text.as_bytes();
     if bytes.len() > LONGEST {
