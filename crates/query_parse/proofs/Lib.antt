@@ -1,3 +1,4 @@
+pub mod Halves
 pub mod ParsingLemmas
 pub mod PieceLemmas
 pub mod Shapes
