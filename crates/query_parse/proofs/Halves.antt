@@ -193,3 +193,121 @@ fine_wrap base (suc n) u fine =
     let inner : FineUnit (base + 1 + n) u = record { within = omega (arith, fine.within); agrees = fine.agrees } in
     let rest = fine_wrap (base + 1) n u inner in
     record { within = omega (arith, rest.within); agrees = rest.agrees }
+
+-- ---- how deep it is, whatever its tests are
+
+abbrev pub WithinUnits : ℕ → List UnitTree → Type 0
+WithinUnits base [] = Unit {0}
+WithinUnits base (u ∷ us) = (base + unit_depth u ≤ most_open) × WithinUnits base us
+
+abbrev pub WithinAnds : ℕ → List AndTree → Type 0
+WithinAnds base [] = Unit {0}
+WithinAnds base (c ∷ cs) = (base + and_depth c ≤ most_open) × WithinAnds base cs
+
+pub units_within : (base : ℕ) (us : List UnitTree) → FineUnits base us → WithinUnits base us
+units_within base [] fine = tt
+units_within base (u ∷ us) fine = (fine.0.within, units_within base us fine.1)
+
+pub ands_within : (base : ℕ) (cs : List AndTree) → FineAnds base cs → WithinAnds base cs
+ands_within base [] fine = tt
+ands_within base (c ∷ cs) fine = (fine.0.within, ands_within base cs fine.1)
+
+within_and_of : (base : ℕ) (us : List UnitTree) (last : UnitTree) → WithinUnits base us → base + unit_depth last ≤ most_open → base + and_depth (and_of us last) ≤ most_open
+within_and_of base [] last all fits = fits
+within_and_of base (u ∷ us) last all fits = omega (arith, all.0, within_and_of base us last all.1 fits)
+
+within_or_of : (base : ℕ) (cs : List AndTree) (last : AndTree) → WithinAnds base cs → base + and_depth last ≤ most_open → base + depth_of (or_of cs last) ≤ most_open
+within_or_of base [] last all fits = fits
+within_or_of base (c ∷ cs) last all fits = omega (arith, all.0, within_or_of base cs last all.1 fits)
+
+wrap_depth : (n : ℕ) (u : UnitTree) → unit_depth (wrap n u) ≡ unit_depth u + n
+wrap_depth zero u = omega arith
+wrap_depth (suc n) u = let rest = wrap_depth n u in omega (arith, rest)
+
+-- the query of a group whose last unit is this, behind its `!`
+abbrev pub ended_by : Half → UnitTree → OrTree
+ended_by h u = or_of h.ors (and_of h.ands (wrap h.nots u))
+
+pub ended_within : (base : ℕ) (h : Half) (u : UnitTree) → FineHalf base h → base + h.nots + unit_depth u ≤ most_open → base + depth_of (ended_by h u) ≤ most_open
+ended_within base h u fine fits =
+    within_or_of base h.ors (and_of h.ands (wrap h.nots u)) (ands_within base h.ors fine.ors)
+    (within_and_of base h.ands (wrap h.nots u) (units_within base h.ands fine.ands) (omega (arith, wrap_depth h.nots u, fits)))
+
+pub ended_spelled : (h : Half) (u : UnitTree) → or_spelled (ended_by h u) ≡ front h ++ unit_spelled u
+ended_spelled h u =
+    whole_spelled h.ors h.ands (wrap h.nots u)
+    ∙ ap (λ (t : List Lexeme). ors_front h.ors ++ (ands_front h.ands ++ t)) (wrap_spelled h.nots u)
+    ∙ ap (λ (t : List Lexeme). ors_front h.ors ++ t) (sym (append_assoc (ands_front h.ands) (nots_front h.nots) (unit_spelled u)))
+    ∙ sym (append_assoc (ors_front h.ors) (ands_front h.ands ++ nots_front h.nots) (unit_spelled u))
+
+-- ---- how it may end: each group around is closed, and then the end comes
+
+abbrev pub closing : List Half → OrTree → OrTree
+closing [] q = q
+closing (h ∷ hs) q = closing hs (ended_by h (Group q))
+
+abbrev pub closes : List Half → List Lexeme
+closes [] = lexeme.End ∷ []
+closes (h ∷ hs) = lexeme.Close ∷ closes hs
+
+regroup : (outer front q more : List Lexeme)
+    → (outer ++ (front ++ (lexeme.Open ∷ (q ++ lexeme.Close ∷ [])))) ++ more ≡ ((outer ++ (front ++ lexeme.Open ∷ [])) ++ q) ++ (lexeme.Close ∷ more)
+regroup outer front q more = simp append_assoc refl
+
+pub closing_spelled : (hs : List Half) (q : OrTree) → or_spelled (closing hs q) ++ lexeme.End ∷ [] ≡ (outer_front hs ++ or_spelled q) ++ closes hs
+closing_spelled [] q = refl
+closing_spelled (h ∷ hs) q =
+    closing_spelled hs (ended_by h (Group q))
+    ∙ ap (λ (t : List Lexeme). (outer_front hs ++ t) ++ closes hs) (ended_spelled h (Group q))
+    ∙ regroup (outer_front hs) (front h) (or_spelled q) (closes hs)
+
+pub closing_within : (hs : List Half) (q : OrTree) → FineOuter hs → opened (nots_of hs) + depth_of q ≤ most_open → depth_of (closing hs q) ≤ most_open
+closing_within [] q fine fits = omega (arith, fits)
+closing_within (h ∷ hs) q fine fits =
+    closing_within hs (ended_by h (Group q)) fine.2 (ended_within (opened (nots_of hs)) h (Group q) fine.0 (omega (arith, fits)))
+
+regroup_first : (outer front first rest more : List Lexeme) → (outer ++ (front ++ (first ++ rest))) ++ more ≡ ((outer ++ front) ++ first) ++ (rest ++ more)
+regroup_first outer front first rest more = simp append_assoc refl
+
+-- tokens of a half-written query, and the first ones of its unit
+spelled_so : (hs : List Half) (h : Half) (u : UnitTree) (first rest : List Lexeme) → unit_spelled u ≡ first ++ rest
+    → or_spelled (closing hs (ended_by h u)) ++ lexeme.End ∷ [] ≡ ((outer_front hs ++ front h) ++ first) ++ (rest ++ closes hs)
+spelled_so hs h u first rest is =
+    closing_spelled hs (ended_by h u)
+    ∙ ap (λ (t : List Lexeme). (outer_front hs ++ t) ++ closes hs) (ended_spelled h u)
+    ∙ ap (λ (t : List Lexeme). (outer_front hs ++ (front h ++ t)) ++ closes hs) is
+    ∙ regroup_first (outer_front hs) (front h) first rest (closes hs)
+
+pub begins_unit : (hs : List Half) (h : Half) (u : UnitTree) (first rest : List Lexeme) → FineOuter hs → FineHalf (opened (nots_of hs)) h
+    → opened (nots_of hs) + h.nots + unit_depth u ≤ most_open → unit_spelled u ≡ first ++ rest → Begins most_open ((outer_front hs ++ front h) ++ first)
+begins_unit hs h u first rest outer fine fits is = record {
+  query = closing hs (ended_by h u);
+  more = rest ++ closes hs;
+  spells = spelled_so hs h u first rest is;
+  within = closing_within hs (ended_by h u) outer (ended_within (opened (nots_of hs)) h u fine fits);
+}
+
+pub continues_unit : (hs : List Half) (h : Half) (u : UnitTree) (first rest : List Lexeme) → unit_spelled u ≡ first ++ rest → Continues ((outer_front hs ++ front h) ++ first)
+continues_unit hs h u first rest is = record { query = closing hs (ended_by h u); more = rest ++ closes hs; spells = spelled_so hs h u first rest is }
+
+-- some test
+abbrev pub any_test : UnitTree
+any_test = Plain TypeName Eq Nil
+
+pub begins_start : (hs : List Half) (h : Half) → FineOuter hs → FineHalf (opened (nots_of hs)) h → Begins most_open (outer_front hs ++ front h)
+begins_start hs h outer fine =
+    subst (Begins most_open) (append-nil (outer_front hs ++ front h))
+    (begins_unit hs h any_test [] (unit_spelled any_test) outer fine (omega (arith, fine.nots)) refl)
+
+-- tokens of a query whose last unit is whole
+pub begins_behind : (hs : List Half) (ors : List AndTree) (us : List UnitTree) (last : UnitTree) → FineOuter hs
+    → FineAnds (opened (nots_of hs)) ors → FineUnits (opened (nots_of hs)) us → FineUnit (opened (nots_of hs)) last
+    → Begins most_open (outer_front hs ++ (ors_front ors ++ (ands_front us ++ unit_spelled last)))
+begins_behind hs ors us last outer fine_ors fine_us fine = record {
+  query = closing hs (or_of ors (and_of us last));
+  more = closes hs;
+  spells = closing_spelled hs (or_of ors (and_of us last)) ∙ ap (λ (t : List Lexeme). (outer_front hs ++ t) ++ closes hs) (whole_spelled ors us last);
+  within = closing_within hs (or_of ors (and_of us last)) outer
+      (within_or_of (opened (nots_of hs)) ors (and_of us last) (ands_within (opened (nots_of hs)) ors fine_ors)
+      (within_and_of (opened (nots_of hs)) us last (units_within (opened (nots_of hs)) us fine_us) fine.within));
+}
