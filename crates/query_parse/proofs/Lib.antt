@@ -2,4 +2,5 @@ pub mod Halves
 pub mod ParsingLemmas
 pub mod PieceLemmas
 pub mod Shapes
+pub mod Standing
 pub mod TokenLemmas
