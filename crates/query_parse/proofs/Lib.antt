@@ -3,4 +3,5 @@ pub mod ParsingLemmas
 pub mod PieceLemmas
 pub mod Shapes
 pub mod Standing
+pub mod Stepping
 pub mod TokenLemmas

@@ -204,7 +204,7 @@ clean_any done ls s x ready other = clean_more ls x ready.clean (λ front a b te
 -- ---- refusals
 
 -- a token that may not follow is unexpected
-stops_here : (done : List Token) (ls : List Lexeme) (s : Shape) (at : ℕ) (x : Lexeme) (after : List Token) → Ready done ls s → Begins most_open ls
+pub stops_here : (done : List Token) (ls : List Lexeme) (s : Shape) (at : ℕ) (x : Lexeme) (after : List Token) → Ready done ls s → Begins most_open ls
     → (P : List Lexeme → Lexeme → Type 0) → P ls x → Stops (done ++ tok at x ∷ after) at P
 stops_here done ls s at x after ready begins P is = record {
   before = done;
@@ -258,7 +258,7 @@ too_deep_at ls s x to (Some t) is runs deep limits parts =
     cc (none, open_)
 
 -- within 64 no construct may be opened where 64 are
-too_deep : (ls : List Lexeme) (s : Shape) (x : Lexeme) → run_by move start_shape ls ≡ Some s → most_open ≤ depth_at s → ((most : ℕ) → limited most s x ≡ (if nat_lt (depth_at s) most then move s x else None))
+pub too_deep : (ls : List Lexeme) (s : Shape) (x : Lexeme) → run_by move start_shape ls ≡ Some s → most_open ≤ depth_at s → ((most : ℕ) → limited most s x ≡ (if nat_lt (depth_at s) most then move s x else None))
     → ¬ Begins most_open (ls ++ x ∷ [])
 too_deep ls s x runs deep limits begins =
     let whole = begins_runs most_open (ls ++ x ∷ []) begins in
