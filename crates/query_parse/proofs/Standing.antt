@@ -58,6 +58,7 @@ pub data Stands : Parser → List Token → Type 0 where
       → Ready done (before hs h) (shape (nots_of hs) h.nots AtUnit) → Stands (parser_at hs h Start) done
   at_rel : (hs : List Half) (h : Half) (base : List Token) (a : ℕ) (pick : Pick) → FineOuter hs → FineHalf (opened (nots_of hs)) h
       → Ready (base ++ tok a (lexeme.Pick pick) ∷ []) (before hs h ++ lexeme.Pick pick ∷ []) (shape (nots_of hs) h.nots AtRel)
+      → kinds_of base ≡ before hs h
       → Stands (parser_at hs h (Picked pick)) (base ++ tok a (lexeme.Pick pick) ∷ [])
   at_literal : (hs : List Half) (h : Half) (base : List Token) (a b : ℕ) (pick : Pick) (rel : Rel) → FineOuter hs → FineHalf (opened (nots_of hs)) h
       → Ready (base ++ (tok a (lexeme.Pick pick) ∷ (tok b (lexeme.Rel rel) ∷ []))) (before hs h ++ (lexeme.Pick pick ∷ (lexeme.Rel rel ∷ []))) (shape (nots_of hs) h.nots AtLiteral)
@@ -65,6 +66,7 @@ pub data Stands : Parser → List Token → Type 0 where
       → Stands (parser_at hs h (Related pick rel)) (base ++ (tok a (lexeme.Pick pick) ∷ (tok b (lexeme.Rel rel) ∷ [])))
   at_turned : (hs : List Half) (h : Half) (base : List Token) (a : ℕ) (literal : Literal) → FineOuter hs → FineHalf (opened (nots_of hs)) h
       → Ready (base ++ tok a (lexeme.Literal literal) ∷ []) (before hs h ++ lexeme.Literal literal ∷ []) (shape (nots_of hs) h.nots AtTurnedRel)
+      → kinds_of base ≡ before hs h
       → Stands (parser_at hs h (Valued literal a)) (base ++ tok a (lexeme.Literal literal) ∷ [])
   at_pick : (hs : List Half) (h : Half) (base : List Token) (a b : ℕ) (literal : Literal) (rel : Rel) → FineOuter hs → FineHalf (opened (nots_of hs)) h
       → Ready (base ++ (tok a (lexeme.Literal literal) ∷ (tok b (lexeme.Rel rel) ∷ []))) (before hs h ++ (lexeme.Literal literal ∷ (lexeme.Rel rel ∷ []))) (shape (nots_of hs) h.nots AtPick)

@@ -22,8 +22,8 @@ use Rattle.query_parse.specs.declared.parser.Parser.{Parser}
 use Rattle.query_parse.specs.declared.parser.Phase.{Phase}
 use Rattle.query_parse.specs.declared.parser.Phase.TheVariants.{Start, Picked, Related, Valued, Reversed, Whole}
 use Rattle.query_parse.specs.Faults.{Begins, Continues, Clean, test_in, kinds_of, IsOpening, Stops, IsUnexpected, IsBad, IsTooDeep, Clashes, literal_at, FaultIn}
-use Rattle.query_parse.specs.Grammar.{UnitTree, AndTree, OrTree, Plain, Turned, Negated, Group, unit_spelled, and_spelled, or_spelled, unit_depth, unit_expr, unit_agrees, test_of, turned, most_open, joined_and}
-use Rattle.query_parse.specs.Parsing.{refused, may_open, not_opened, group_opened, unit_next, relation_next, literal_next, turned_next, pick_next, whole_next, with_test, behind_unit, negated, closed, split_last, group_expr, next}
+use Rattle.query_parse.specs.Grammar.{UnitTree, AndTree, OrTree, Plain, Turned, Negated, Group, unit_spelled, and_spelled, or_spelled, unit_depth, unit_expr, unit_agrees, test_of, turned, most_open, joined_and, Reads}
+use Rattle.query_parse.specs.Parsing.{refused, may_open, not_opened, group_opened, unit_next, relation_next, literal_next, turned_next, pick_next, whole_next, with_test, behind_unit, negated, closed, split_last, group_expr, next, run, and_then, is_end, finished, finished_in, end_fault, start}
 use Rattle.query_parse.specs.Tokens.{Token}
 use Rattle.query_parse.proofs.Halves.{Half, half, front, outer_front, ors_front, ands_front, nots_front, nots_of, nots_more, read_half, read_whole, FineOuter, FineHalf, FineAnds, FineUnits, FineUnit, FineOr, begins_start, begins_unit, begins_behind, continues_unit, any_test, wrap, wrap_expr, wrap_spelled, fine_wrap, fine_units_more, fine_ands_more, fine_and_of, fine_or_of, and_of, or_of, and_expr, whole_spelled, whole_expr, ands_more, ors_more, and_of_spelled, and_of_members}
 use Rattle.query_parse.proofs.ParsingLemmas.{last_group}
@@ -101,10 +101,10 @@ module _ (hs : List Half) (h : Half) (done : List Token) (outer : FineOuter hs) 
   unit_step at lexeme.Open = open_step at (may_open (parser_at hs h Start)) refl
   unit_step at (lexeme.Pick pick) =
       at_rel hs h done at pick outer fine
-      (ready_more done (before hs h) (shape (nots_of hs) h.nots AtUnit) at (lexeme.Pick pick) (shape (nots_of hs) h.nots AtRel) (before hs h ++ lexeme.Pick pick ∷ []) ready refl (clean_with (lexeme.Pick pick)) refl)
+      (ready_more done (before hs h) (shape (nots_of hs) h.nots AtUnit) at (lexeme.Pick pick) (shape (nots_of hs) h.nots AtRel) (before hs h ++ lexeme.Pick pick ∷ []) ready refl (clean_with (lexeme.Pick pick)) refl) ready.is
   unit_step at (lexeme.Literal literal) =
       at_turned hs h done at literal outer fine
-      (ready_more done (before hs h) (shape (nots_of hs) h.nots AtUnit) at (lexeme.Literal literal) (shape (nots_of hs) h.nots AtTurnedRel) (before hs h ++ lexeme.Literal literal ∷ []) ready refl (clean_with (lexeme.Literal literal)) refl)
+      (ready_more done (before hs h) (shape (nots_of hs) h.nots AtUnit) at (lexeme.Literal literal) (shape (nots_of hs) h.nots AtTurnedRel) (before hs h ++ lexeme.Literal literal ∷ []) ready refl (clean_with (lexeme.Literal literal)) refl) ready.is
   unit_step at x = refuse done (before hs h) (shape (nots_of hs) h.nots AtUnit) at x ready begins refl
 
 -- ---- the relation
@@ -192,8 +192,8 @@ module _ (hs : List Half) (h : Half) (base : List Token) (first second third : T
     (expr : unit_expr u ≡ roll-Expr (level.Test test))
     (whole : test_in first.lexeme second.lexeme third.lexeme ≡ Some test)
     (at_place : literal_at first third ≡ place) where
-  abbrev done : List Token
-  done = base ++ (first ∷ (second ∷ []))
+  abbrev two_done : List Token
+  two_done = base ++ (first ∷ (second ∷ []))
 
   abbrev two_ls : List Lexeme
   two_ls = before hs h ++ (first.lexeme ∷ (second.lexeme ∷ []))
@@ -206,7 +206,7 @@ module _ (hs : List Half) (h : Half) (base : List Token) (first second third : T
 
   kinds_three : kinds_of (base ++ (first ∷ (second ∷ (third ∷ [])))) ≡ before hs h ++ unit_spelled u
   kinds_three =
-      ap kinds_of (sym (three base [] first second third)) ∙ kinds_more done third.at third.lexeme two_ls ready.is ∙ three_ls
+      ap kinds_of (sym (three base [] first second third)) ∙ kinds_more two_done third.at third.lexeme two_ls ready.is ∙ three_ls
 
   clean_whole : agrees test ≡ true → Clean (two_ls ++ third.lexeme ∷ [])
   clean_whole yes_ = clean_more two_ls third.lexeme ready.clean (λ front a b other is found.
@@ -214,10 +214,10 @@ module _ (hs : List Half) (h : Half) (base : List Token) (first second third : T
       let same : ◌≡◌ {A = Option Test} (Some test) (Some other) = sym whole ∙ ap (λ (x : Lexeme). test_in x second.lexeme third.lexeme) ends.0 ∙ ap (λ (y : Lexeme). test_in a y third.lexeme) ends.1 ∙ found in
       subst (λ (t : Test). IsTrue (agrees t)) (some_test test other same) yes_)
 
-  test_step : (c : Bool) → agrees test ≡ c → Steps done third.at third.lexeme (with_test (parser_at hs h Start) place test)
+  test_step : (c : Bool) → agrees test ≡ c → Steps two_done third.at third.lexeme (with_test (parser_at hs h Start) place test)
   test_step true is =
-      rw is (unit_ended hs h u (done ++ third ∷ []) (opened (nots_of hs) + h.nots) (roll-Expr (level.Test test)) outer fine fits (agree ∙ is) expr refl
-      (ready_more done two_ls (shape (nots_of hs) h.nots two) third.at third.lexeme (shape (nots_of hs) 0 Behind) (before hs h ++ unit_spelled u) ready moves (clean_whole is) three_ls))
+      rw is (unit_ended hs h u (two_done ++ third ∷ []) (opened (nots_of hs) + h.nots) (roll-Expr (level.Test test)) outer fine fits (agree ∙ is) expr refl
+      (ready_more two_done two_ls (shape (nots_of hs) h.nots two) third.at third.lexeme (shape (nots_of hs) 0 Behind) (before hs h ++ unit_spelled u) ready moves (clean_whole is) three_ls))
   test_step false is = rw is (λ after.
       record {
         before = base;
@@ -356,3 +356,105 @@ behind_step hs ors us last done outer fine_ors fine_us fine ready at lexeme.Or o
 behind_step hs ors us last done outer fine_ors fine_us fine ready at lexeme.Close other = closes_at hs ors us last done outer fine_ors fine_us fine ready at
 behind_step hs ors us last done outer fine_ors fine_us fine ready at lexeme.End other = absurd (other refl)
 behind_step hs ors us last done outer fine_ors fine_us fine ready at x other = no_more hs ors us last done outer fine_ors fine_us fine ready at x refl
+
+-- ---- any token
+
+pub step : {p : Parser} {done : List Token} → Stands p done → (at : ℕ) (x : Lexeme) → x ≢ lexeme.End → Steps done at x (next p p.phase at x)
+step (at_unit hs h done outer fine ready) at x other = unit_step hs h done outer fine ready at x
+step (at_rel hs h base a pick outer fine ready at_base) at x other = rel_step hs h base a pick outer fine ready at_base at x
+step (at_literal hs h base a b pick rel outer fine ready at_base) at x other = literal_step hs h base a b pick rel outer fine ready at x
+step (at_turned hs h base a literal outer fine ready at_base) at x other = turned_step hs h base a literal outer fine ready at_base at x
+step (at_pick hs h base a b literal rel outer fine ready at_base) at x other = pick_step hs h base a b literal rel outer fine ready at x
+step (behind hs ors us last done outer fine_ors fine_us fine ready) at x other = behind_step hs ors us last done outer fine_ors fine_us fine ready at x other
+
+-- ---- the end
+
+-- what a text that was read to its end is: a query, or none for a fault at a place
+abbrev pub Verdict : List Token → Result Expr QueryFault → Type 0
+Verdict tokens (Ok e) = Reads (kinds_of tokens) e
+Verdict tokens (Err f) = FaultIn tokens f.at f.what
+
+end_refused : (done : List Token) (ls : List Lexeme) (s : Shape) (at : ℕ) → Ready done ls s → Begins most_open ls → move s lexeme.End ≡ None
+    → Verdict (done ++ tok at lexeme.End ∷ []) (end_fault at)
+end_refused done ls s at ready begins_ls stops = refuse done ls s at lexeme.End ready begins_ls stops []
+
+not_empty : (outer : List Read) (g : Read) (group : Read) (at : ℕ) → finished_in (outer ++ g ∷ []) group at ≡ end_fault at
+not_empty [] g group at = refl
+not_empty (o ∷ outer) g group at = refl
+
+behind_end : (hs : List Half) (ors : List AndTree) (us : List UnitTree) (last : UnitTree) (done : List Token) → FineOuter hs
+    → FineAnds (opened (nots_of hs)) ors → FineUnits (opened (nots_of hs)) us → FineUnit (opened (nots_of hs)) last
+    → Ready done (behind_front hs ors us last) (shape (nots_of hs) 0 Behind) → (at : ℕ)
+    → Verdict (done ++ tok at lexeme.End ∷ []) (finished_in (outers hs) (read_whole ors us last) at)
+behind_end [] ors us last done outer fine_ors fine_us fine ready at =
+    let query = or_of ors (and_of us last) in
+    let fine_query : FineOr 0 query = fine_or_of 0 ors (and_of us last) fine_ors (fine_and_of 0 us last fine_us fine) in
+    record {
+      query = query;
+      spells = kinds_more done at lexeme.End (behind_front [] ors us last) ready.is ∙ ap (λ (t : List Lexeme). t ++ lexeme.End ∷ []) (sym (whole_spelled ors us last));
+      is = whole_expr ors us last;
+      shallow = omega (arith, fine_query.within);
+      agree = fine_query.agrees;
+    }
+behind_end (h ∷ hs) ors us last done outer fine_ors fine_us fine ready at =
+    subst (Verdict (done ++ tok at lexeme.End ∷ [])) (sym (not_empty (outers hs) (read_half h) (read_whole ors us last) at))
+    (end_refused done (behind_front (h ∷ hs) ors us last) (shape (nots_of (h ∷ hs)) 0 Behind) at ready
+    (begins_behind (h ∷ hs) ors us last outer fine_ors fine_us fine) refl)
+
+ends : {p : Parser} {done : List Token} → Stands p done → (at : ℕ) → Verdict (done ++ tok at lexeme.End ∷ []) (finished p p.phase at)
+ends (at_unit hs h done outer fine ready) at =
+    end_refused done (before hs h) (shape (nots_of hs) h.nots AtUnit) at ready (begins_start hs h outer fine) refl
+ends (at_rel hs h base a pick outer fine ready at_base) at =
+    end_refused (base ++ tok a (lexeme.Pick pick) ∷ []) (before hs h ++ lexeme.Pick pick ∷ []) (shape (nots_of hs) h.nots AtRel) at ready
+    (begins_unit hs h (Plain pick Eq Nil) (lexeme.Pick pick ∷ []) (lexeme.Rel Eq ∷ (lexeme.Literal Nil ∷ [])) outer fine (omega (arith, fine.nots)) refl) refl
+ends (at_literal hs h base a b pick rel outer fine ready at_base) at =
+    end_refused (base ++ (tok a (lexeme.Pick pick) ∷ (tok b (lexeme.Rel rel) ∷ []))) (before hs h ++ (lexeme.Pick pick ∷ (lexeme.Rel rel ∷ []))) (shape (nots_of hs) h.nots AtLiteral) at ready
+    (begins_unit hs h (Plain pick rel Nil) (lexeme.Pick pick ∷ (lexeme.Rel rel ∷ [])) (lexeme.Literal Nil ∷ []) outer fine (omega (arith, fine.nots)) refl) refl
+ends (at_turned hs h base a literal outer fine ready at_base) at =
+    end_refused (base ++ tok a (lexeme.Literal literal) ∷ []) (before hs h ++ lexeme.Literal literal ∷ []) (shape (nots_of hs) h.nots AtTurnedRel) at ready
+    (begins_unit hs h (Turned literal Eq TypeName) (lexeme.Literal literal ∷ []) (lexeme.Rel Eq ∷ (lexeme.Pick TypeName ∷ [])) outer fine (omega (arith, fine.nots)) refl) refl
+ends (at_pick hs h base a b literal rel outer fine ready at_base) at =
+    end_refused (base ++ (tok a (lexeme.Literal literal) ∷ (tok b (lexeme.Rel rel) ∷ []))) (before hs h ++ (lexeme.Literal literal ∷ (lexeme.Rel rel ∷ []))) (shape (nots_of hs) h.nots AtPick) at ready
+    (begins_unit hs h (Turned literal rel TypeName) (lexeme.Literal literal ∷ (lexeme.Rel rel ∷ [])) (lexeme.Pick TypeName ∷ []) outer fine (omega (arith, fine.nots)) refl) refl
+ends (behind hs ors us last done outer fine_ors fine_us fine ready) at = behind_end hs ors us last done outer fine_ors fine_us fine ready at
+
+-- ---- all tokens
+
+-- the end comes once, as the last token
+abbrev pub EndsOnce : List Token → Type 0
+EndsOnce [] = ⊥
+EndsOnce (t ∷ []) = is_end t.lexeme ≡ true
+EndsOnce (t ∷ (u ∷ ts)) = (is_end t.lexeme ≡ false) × EndsOnce (u ∷ ts)
+
+is_the_end : (x : Lexeme) → is_end x ≡ true → x ≡ lexeme.End
+is_the_end lexeme.End e = refl
+is_the_end x e = absurd cc
+
+no_end : (x : Lexeme) → is_end x ≡ false → x ≢ lexeme.End
+no_end lexeme.End e = absurd cc
+no_end x e = λ same. cc
+
+go_on : (done : List Token) (at : ℕ) (x : Lexeme) (ts : List Token) (r : Result Parser QueryFault) → Steps done at x r
+    → ((q : Parser) → Stands q (done ++ tok at x ∷ []) → Verdict ((done ++ tok at x ∷ []) ++ ts) (run q ts))
+    → Verdict (done ++ tok at x ∷ ts) (and_then r (λ q. run q ts))
+go_on done at x ts (Ok q) stands later = subst (λ (all : List Token). Verdict all (run q ts)) (append_assoc done (tok at x ∷ []) ts) (later q stands)
+go_on done at x ts (Err f) refusal later = refusal ts
+
+pub judged : (ts : List Token) {p : Parser} {done : List Token} → Stands p done → EndsOnce ts → Verdict (done ++ ts) (run p ts)
+judged [] stands once = absurd once
+judged (t ∷ []) {p} {done} stands once = rw once (subst (λ (x : Lexeme). Verdict (done ++ tok t.at x ∷ []) (finished p p.phase t.at)) (sym (is_the_end t.lexeme once)) (ends stands t.at))
+judged (t ∷ (u ∷ ts)) {p} {done} stands once =
+    rw once.0 (go_on done t.at t.lexeme (u ∷ ts) (next p p.phase t.at t.lexeme) (step stands t.at t.lexeme (no_end t.lexeme once.0)) (λ q more. judged (u ∷ ts) more once.1))
+
+too_short : (front : List Lexeme) (a b c : Lexeme) (after : List Lexeme) → ◌≡◌ {A = List Lexeme} [] (front ++ (a ∷ (b ∷ (c ∷ after)))) → ⊥
+too_short [] a b c after e = cc
+too_short (x ∷ xs) a b c after e = cc
+
+-- a parser that has read nothing
+nothing_read : Stands start []
+nothing_read =
+    at_unit [] (half [] [] 0) [] tt (record { ors = tt; ands = tt; nots = omega arith })
+    (record { is = refl; runs = refl; clean = λ front a b c after test is whole. absurd (too_short front a b c after is) })
+
+pub judged_all : (ts : List Token) → EndsOnce ts → Verdict ts (run start ts)
+judged_all ts once = judged ts nothing_read once
