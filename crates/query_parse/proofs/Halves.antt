@@ -1,5 +1,5 @@
 -- Queries that are half written: their trees so far, and how they may end.
-use Rattle.std.proofs.Common.{◌≡◌, ◌≢◌, ℕ, zero, suc, ◌+◌, ◌-◌, ◌<◌, ◌≤◌, Bool, true, false, ◌&&◌, max, List, [], ◌∷◌, ◌++◌, Option, None, Some, map, replicate, IsTrue, refl, ap, sym, ◌∙◌, subst, append_assoc, append-nil, arith}
+use Rattle.std.proofs.Common.{◌≡◌, ℕ, zero, suc, ◌+◌, ◌≤◌, Bool, true, ◌&&◌, List, [], ◌∷◌, ◌++◌, map, refl, ap, sym, ◌∙◌, subst, append_assoc, append-nil, arith}
 use Rattle.query_meaning.specs.declared.expr.Expr.{Expr, roll-Expr}
 use Rattle.query_meaning.specs.declared.expr.Expr.TheOpen as level
 use Rattle.query_meaning.specs.declared.expr.Pick.TheVariants.{TypeName}
@@ -9,7 +9,7 @@ use Rattle.query_parse.specs.declared.lexeme.Lexeme.{Lexeme}
 use Rattle.query_parse.specs.declared.lexeme.Lexeme.TheVariants as lexeme
 use Rattle.query_parse.specs.declared.parser.Group.{Group as Read}
 use Rattle.query_parse.specs.Faults.{Begins, Continues}
-use Rattle.query_parse.specs.Grammar.{UnitTree, AndTree, OrTree, Plain, Turned, Negated, Group, Lone, Both, Only, Either, unit_spelled, and_spelled, or_spelled, unit_depth, and_depth, depth_of, unit_agrees, and_agrees, all_agree, unit_expr, and_members, or_members, joined_and, joined_or, stands_for, most_open}
+use Rattle.query_parse.specs.Grammar.{UnitTree, AndTree, OrTree, Plain, Negated, Group, Lone, Both, Only, Either, unit_spelled, and_spelled, or_spelled, unit_depth, and_depth, depth_of, unit_agrees, and_agrees, all_agree, unit_expr, and_members, or_members, joined_and, joined_or, stands_for, most_open}
 use Rattle.query_parse.specs.Parsing.{negated, group_expr}
 use Rattle.query_parse.proofs.Shapes.{opened}
 

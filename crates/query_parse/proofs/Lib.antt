@@ -1,4 +1,6 @@
+pub mod Ends
 pub mod Halves
+pub mod Judging
 pub mod ParsingLemmas
 pub mod PieceLemmas
 pub mod Shapes

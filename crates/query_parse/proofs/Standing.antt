@@ -1,31 +1,26 @@
 -- What a parser that read some tokens stands for.
-use Rattle.std.proofs.Common.{◌≡◌, ◌≢◌, ℕ, zero, suc, ◌+◌, ◌-◌, ◌<◌, ◌≤◌, Bool, true, false, ◌&&◌, cond, if◌then◌else◌, nat_lt, List, [], ◌∷◌, ◌++◌, Option, None, Some, Result, Ok, Err, map, IsTrue, IsFalse, refl, ap, sym, ◌∙◌, subst, append_assoc, append-nil, arith, ⊎_elim}
+use Rattle.std.proofs.Common.{◌≡◌, ◌≢◌, ℕ, ◌+◌, ◌≤◌, Bool, true, false, if◌then◌else◌, nat_lt, List, [], ◌∷◌, ◌++◌, Option, None, Some, Result, Ok, Err, IsTrue, refl, ap, sym, ◌∙◌, subst, append_assoc, arith, ⊎_elim}
 use Rattle.std.specs.Option.{option_and_then}
-use Rattle.std.proofs.lemmas.Bool.{cases_Bool, ltb-true, lt-ltb}
-use Rattle.query_meaning.specs.declared.expr.Expr.{Expr, roll-Expr}
-use Rattle.query_meaning.specs.declared.expr.Expr.TheOpen as level
+use Rattle.std.proofs.lemmas.Bool.{cases_Bool, ltb-true}
 use Rattle.query_meaning.specs.declared.expr.Test.{Test}
 use Rattle.query_meaning.specs.declared.expr.Pick.{Pick}
 use Rattle.query_meaning.specs.declared.expr.Rel.{Rel}
 use Rattle.query_meaning.specs.declared.expr.Literal.{Literal}
-use Rattle.query_meaning.specs.declared.expr.Literal.TheVariants.{Nil}
-use Rattle.query_meaning.specs.declared.expr.Rel.TheVariants.{Eq}
-use Rattle.query_meaning.specs.declared.expr.Pick.TheVariants.{TypeName}
 use Rattle.query_meaning.specs.Agreement.{agrees}
 use Rattle.query_parse.specs.declared.fault.QueryFault.{QueryFault}
-use Rattle.query_parse.specs.declared.fault.QueryWhat.TheVariants.{Unexpected, BadLiteral, KindClash, TooDeep}
+use Rattle.query_parse.specs.declared.fault.QueryWhat.TheVariants.{Unexpected}
 use Rattle.query_parse.specs.declared.lexeme.Lexeme.{Lexeme}
 use Rattle.query_parse.specs.declared.lexeme.Lexeme.TheVariants as lexeme
 use Rattle.query_parse.specs.declared.parser.Group.{Group as Read}
 use Rattle.query_parse.specs.declared.parser.Parser.{Parser}
 use Rattle.query_parse.specs.declared.parser.Phase.{Phase}
 use Rattle.query_parse.specs.declared.parser.Phase.TheVariants.{Start, Picked, Related, Valued, Reversed, Whole}
-use Rattle.query_parse.specs.Faults.{Begins, Continues, Clean, test_in, kinds_of, IsOpening, Stops, IsUnexpected, IsBad, IsTooDeep, Clashes, literal_at, FaultIn}
-use Rattle.query_parse.specs.Grammar.{UnitTree, AndTree, OrTree, Plain, Turned, Negated, Group, unit_spelled, and_spelled, or_spelled, unit_depth, unit_expr, test_of, turned, most_open}
+use Rattle.query_parse.specs.Faults.{Begins, Continues, Clean, test_in, kinds_of, Stops, IsUnexpected, IsBad, FaultIn}
+use Rattle.query_parse.specs.Grammar.{UnitTree, AndTree, unit_spelled, most_open}
 use Rattle.query_parse.specs.Parsing.{refused}
 use Rattle.query_parse.specs.Tokens.{Token}
-use Rattle.query_parse.proofs.Halves.{Half, half, front, outer_front, ors_front, ands_front, nots_of, read_half, read_whole, FineOuter, FineHalf, FineAnds, FineUnits, FineUnit}
-use Rattle.query_parse.proofs.Shapes.{Place, AtUnit, AtRel, AtLiteral, AtTurnedRel, AtPick, Behind, AtEnd, Shape, shape, start_shape, opened, depth_at, move, limited, run_by, run_parts, run_free, Comes, begins_runs, continues_runs}
+use Rattle.query_parse.proofs.Halves.{Half, front, outer_front, ors_front, ands_front, nots_of, read_half, read_whole, FineOuter, FineHalf, FineAnds, FineUnits, FineUnit}
+use Rattle.query_parse.proofs.Shapes.{Place, AtUnit, AtRel, AtLiteral, AtTurnedRel, AtPick, Behind, AtEnd, Shape, shape, start_shape, opened, depth_at, move, limited, run_by, run_parts, run_free, begins_runs, continues_runs}
 
 abbrev pub tok : ℕ → Lexeme → Token
 tok at x = record { at = at; lexeme = x }

@@ -1,7 +1,6 @@
 -- Each token leads a parser that stands to one that stands, or to the leftmost fault.
-use Rattle.std.proofs.Common.{◌≡◌, ◌≢◌, ℕ, zero, suc, ◌+◌, ◌-◌, ◌<◌, ◌≤◌, Bool, true, false, ◌&&◌, cond, if◌then◌else◌, nat_lt, List, [], ◌∷◌, ◌++◌, Option, None, Some, Result, Ok, Err, map, IsTrue, IsFalse, refl, ap, sym, ◌∙◌, subst, append_assoc, append-nil, arith, ⊎_elim}
-use Rattle.std.specs.Option.{option_and_then}
-use Rattle.std.proofs.lemmas.Bool.{cases_Bool, ltb-true, lt-ltb}
+use Rattle.std.proofs.Common.{◌≡◌, ◌≢◌, ℕ, ◌+◌, ◌-◌, ◌<◌, ◌≤◌, Bool, true, false, ◌&&◌, if◌then◌else◌, nat_lt, List, [], ◌∷◌, ◌++◌, Option, None, Some, Result, Ok, Err, map, IsTrue, refl, ap, sym, ◌∙◌, subst, append_assoc, append-nil, arith}
+use Rattle.std.proofs.lemmas.Bool.{ltb-true, lt-ltb}
 use Rattle.std.proofs.lemmas.List.{map-append}
 use Rattle.query_meaning.specs.declared.expr.Expr.{Expr, roll-Expr}
 use Rattle.query_meaning.specs.declared.expr.Expr.TheOpen as level
@@ -14,20 +13,21 @@ use Rattle.query_meaning.specs.declared.expr.Rel.TheVariants.{Eq}
 use Rattle.query_meaning.specs.declared.expr.Pick.TheVariants.{TypeName}
 use Rattle.query_meaning.specs.Agreement.{agrees}
 use Rattle.query_parse.specs.declared.fault.QueryFault.{QueryFault}
-use Rattle.query_parse.specs.declared.fault.QueryWhat.TheVariants.{Unexpected, BadLiteral, KindClash, TooDeep}
+use Rattle.query_parse.specs.declared.fault.QueryWhat.TheVariants.{TooDeep}
 use Rattle.query_parse.specs.declared.lexeme.Lexeme.{Lexeme}
 use Rattle.query_parse.specs.declared.lexeme.Lexeme.TheVariants as lexeme
 use Rattle.query_parse.specs.declared.parser.Group.{Group as Read}
 use Rattle.query_parse.specs.declared.parser.Parser.{Parser}
 use Rattle.query_parse.specs.declared.parser.Phase.{Phase}
 use Rattle.query_parse.specs.declared.parser.Phase.TheVariants.{Start, Picked, Related, Valued, Reversed, Whole}
-use Rattle.query_parse.specs.Faults.{Begins, Continues, Clean, test_in, kinds_of, IsOpening, Stops, IsUnexpected, IsBad, IsTooDeep, Clashes, literal_at, FaultIn}
-use Rattle.query_parse.specs.Grammar.{UnitTree, AndTree, OrTree, Plain, Turned, Negated, Group, unit_spelled, and_spelled, or_spelled, unit_depth, unit_expr, unit_agrees, test_of, turned, most_open, joined_and, Reads}
+use Rattle.query_parse.specs.Faults.{Begins, Continues, Clean, test_in, kinds_of, IsOpening, IsTooDeep, literal_at, FaultIn}
+use Rattle.query_parse.specs.Grammar.{UnitTree, AndTree, Plain, Turned, Negated, Group, unit_spelled, and_spelled, unit_depth, unit_expr, unit_agrees, test_of, turned, most_open, joined_and, Reads}
 use Rattle.query_parse.specs.Parsing.{refused, may_open, not_opened, group_opened, unit_next, relation_next, literal_next, turned_next, pick_next, whole_next, with_test, behind_unit, negated, closed, split_last, group_expr, next, run, and_then, is_end, finished, finished_in, end_fault, start}
 use Rattle.query_parse.specs.Tokens.{Token}
 use Rattle.query_parse.proofs.Halves.{Half, half, front, outer_front, ors_front, ands_front, nots_front, nots_of, nots_more, read_half, read_whole, FineOuter, FineHalf, FineAnds, FineUnits, FineUnit, FineOr, begins_start, begins_unit, begins_behind, continues_unit, any_test, wrap, wrap_expr, wrap_spelled, fine_wrap, fine_units_more, fine_ands_more, fine_and_of, fine_or_of, and_of, or_of, and_expr, whole_spelled, whole_expr, ands_more, ors_more, and_of_spelled, and_of_members}
+use Rattle.query_parse.proofs.Ends.{EndsOnce}
 use Rattle.query_parse.proofs.ParsingLemmas.{last_group}
-use Rattle.query_parse.proofs.Shapes.{Place, AtUnit, AtRel, AtLiteral, AtTurnedRel, AtPick, Behind, AtEnd, Shape, shape, start_shape, opened, depth_at, move, limited, run_by}
+use Rattle.query_parse.proofs.Shapes.{Place, AtUnit, AtRel, AtLiteral, AtTurnedRel, AtPick, Behind, Shape, shape, opened, move, limited}
 use Rattle.query_parse.proofs.Standing.{tok, outers, parser_at, parser_behind, before, behind_front, Ready, Stands, at_unit, at_rel, at_literal, at_turned, at_pick, behind, Steps, ready_more, kinds_more, clean_any, clean_more, snoc_is, refuse, stops_here, too_deep}
 
 -- ---- the beginning of a unit
@@ -419,12 +419,6 @@ ends (at_pick hs h base a b literal rel outer fine ready at_base) at =
 ends (behind hs ors us last done outer fine_ors fine_us fine ready) at = behind_end hs ors us last done outer fine_ors fine_us fine ready at
 
 -- ---- all tokens
-
--- the end comes once, as the last token
-abbrev pub EndsOnce : List Token → Type 0
-EndsOnce [] = ⊥
-EndsOnce (t ∷ []) = is_end t.lexeme ≡ true
-EndsOnce (t ∷ (u ∷ ts)) = (is_end t.lexeme ≡ false) × EndsOnce (u ∷ ts)
 
 is_the_end : (x : Lexeme) → is_end x ≡ true → x ≡ lexeme.End
 is_the_end lexeme.End e = refl
