@@ -1,5 +1,5 @@
 -- What the reading of a whole text says of the text.
-use Rattle.std.proofs.Common.{◌≡◌, ℕ, ◌≤◌, List, Result, Ok, Err, length, IfOk, IfErr, subst, arith}
+use Rattle.std.proofs.Common.{MatchResult, sym, ◌∙◌, ◌≡◌, ℕ, ◌≤◌, List, Result, Ok, Err, length, IfOk, IfErr, subst, arith}
 use Rattle.query_meaning.specs.declared.expr.Expr.{Expr}
 use Rattle.query_parse.specs.declared.fault.ParseEnd.{ParseEnd}
 use Rattle.query_parse.specs.declared.fault.ParseEnd.TheVariants.{Fault, Memory}
@@ -11,6 +11,7 @@ use Rattle.query_parse.specs.Grammar.{Reads}
 use Rattle.query_parse.specs.Parsing.{run, start, Reached}
 use Rattle.query_parse.specs.Tokens.{tokens_of, lexemes_of}
 use Rattle.query_parse.proofs.PieceLemmas.{ends_once}
+use Rattle.query_parse.proofs.Passing.{reading_passes}
 use Rattle.query_parse.proofs.Stepping.{Verdict, judged_all}
 
 verdict : (text : List ℕ) (r : Result Expr QueryFault) → run start (tokens_of text) ≡ r → Verdict (tokens_of text) r
@@ -31,3 +32,15 @@ pub text_refused : (text : List ℕ) (result : Result Expr ParseEnd) → length 
 text_refused text (Ok e) short is = tt
 text_refused text (Err (Fault f)) short is = fault_is text f.at f.what short (verdict text (Err f) is)
 text_refused text (Err Memory) short is = tt
+
+reached_as : (reading : Result Expr QueryFault) (expr : Expr) (result : Result Expr ParseEnd) → reading ≡ Ok expr → Reached reading result
+    → MatchResult result (λ e. e ≡ expr) (λ end. end ≡ Memory)
+reached_as reading expr (Ok e) is reached =
+    let same : ◌≡◌ {A = Result Expr QueryFault} (Ok e) (Ok expr) = sym reached ∙ is in cc
+reached_as reading expr (Err (Fault f)) is reached =
+    let no : ◌≡◌ {A = Result Expr QueryFault} (Err f) (Ok expr) = sym reached ∙ is in absurd cc
+reached_as reading expr (Err Memory) is reached = refl
+
+pub text_in_grammar : (text : List ℕ) (expr : Expr) (result : Result Expr ParseEnd) → Reads (lexemes_of text) expr → Reached (run start (tokens_of text)) result
+    → MatchResult result (λ e. e ≡ expr) (λ end. end ≡ Memory)
+text_in_grammar text expr result reads reached = reached_as (run start (tokens_of text)) expr result (reading_passes (tokens_of text) expr reads) reached
