@@ -1,5 +1,5 @@
 -- What the reading of a whole text says of the text.
-use Rattle.std.proofs.Common.{MatchResult, sym, ◌∙◌, ◌≡◌, ℕ, ◌≤◌, List, Result, Ok, Err, length, IfOk, IfErr, subst, arith}
+use Rattle.std.proofs.Common.{MatchResult, sym, ◌∙◌, refl, ◌≡◌, ℕ, ◌≤◌, List, Result, Ok, Err, length, IfOk, IfErr, subst, arith}
 use Rattle.query_meaning.specs.declared.expr.Expr.{Expr}
 use Rattle.query_parse.specs.declared.fault.ParseEnd.{ParseEnd}
 use Rattle.query_parse.specs.declared.fault.ParseEnd.TheVariants.{Fault, Memory}
