@@ -13,7 +13,7 @@ use Rattle.query_parse.specs.declared.fault.QueryFault.{QueryFault}
 use Rattle.query_parse.specs.declared.fault.ParseEnd.{ParseEnd}
 use Rattle.query_parse.specs.declared.fault.ParseEnd.TheVariants.{Fault, Memory}
 use Rattle.query_parse.specs.declared.fault.QueryWhat.{QueryWhat}
-use Rattle.query_parse.specs.declared.fault.QueryWhat.TheVariants.{Unexpected, BadLiteral, KindClash, TooDeep}
+use Rattle.query_parse.specs.declared.fault.QueryWhat.TheVariants.{Unexpected, BadLiteral, KindClash, TooDeep, TooLong}
 use Rattle.query_parse.specs.declared.lexeme.Lexeme.{Lexeme}
 use Rattle.query_parse.specs.declared.lexeme.Lexeme.TheVariants as lexeme
 use Rattle.query_parse.specs.declared.parser.Group.{Group}
@@ -21,7 +21,7 @@ use Rattle.query_parse.specs.declared.parser.Parser.{Parser}
 use Rattle.query_parse.specs.declared.parser.Phase.{Phase}
 use Rattle.query_parse.specs.declared.parser.Phase.TheVariants.{Start, Picked, Related, Valued, Reversed, Whole}
 use Rattle.query_parse.specs.Grammar.{joined_and, joined_or, test_of, turned}
-use Rattle.query_parse.specs.Tokens.{Token, tokens_in}
+use Rattle.query_parse.specs.Tokens.{Token, tokens_in, tokens_of}
 
 abbrev pub fresh : Group
 fresh = record { ors = []; ands = []; nots = 0 }
@@ -172,3 +172,10 @@ abbrev pub ReadsOn : Parser → Parser → ℕ → List ℕ → Result ℕ Parse
 ReadsOn old new at text (Ok count) = Moves old new at text count
 ReadsOn old new at text (Err (Fault f)) = (turns : ℕ) → run old (tokens_in (suc turns) at text) ≡ Err f
 ReadsOn old new at text (Err Memory) = Unit {0}
+
+-- What a text parses to: the expression that the grammar reads, or the leftmost fault.
+unfoldable pub parsed : List ℕ → Result Expr QueryFault
+parsed text = if nat_lt 65536 (length text) then Err (record { at = 65536; what = TooLong }) else run start (tokens_of text)
+
+abbrev pub Parses : List ℕ → Result Expr ParseEnd → Type 0
+Parses text result = Reached (parsed text) result

@@ -1,8 +1,9 @@
 //! From a text to an expression.
-ghost use Rattle.std.specs.Prelude.{◌≡◌, ◌≤◌, ◌<◌, ◌∷◌, length, IfOk, IfErr};
+ghost use Rattle.std.specs.Prelude.{◌≡◌, ◌≤◌, ◌<◌, ◌∷◌, length, IfOk, IfErr, MatchResult};
+ghost use Rattle.query_meaning.specs.declared.expr.Expr.{Expr};
 ghost use Rattle.query_parse.specs.Faults.{Refuses};
 ghost use Rattle.query_parse.specs.Grammar.{Reads};
-ghost use Rattle.query_parse.specs.Parsing.{run, start, Reached, ReadsOn};
+ghost use Rattle.query_parse.specs.Parsing.{run, start, Reached, ReadsOn, Parses};
 ghost use Rattle.query_parse.specs.Tokens.{tokens_of, lexemes_of};
 
 use crate::fault::{ParseEnd, QueryWhat};
@@ -24,9 +25,12 @@ const LONGEST: usize = 65_536;
 ///
 /// Blanks part tokens. Two or more members make one list, parentheses leave no node, and the reversed form is turned.
 /// At most 64 `!` and parentheses are open at once, and the text has at most 65,536 bytes.
+#[tactic(auto, unfolding(crate::specs::Parsing::parsed))]
 pub fn parse(alloc: Global, text: &str) -> Result<Expr, ParseEnd>
+    ensures exact { Parses text.now result }
     ensures reads { IfOk result (λ expr. Reads (lexemes_of text.now) expr) }
     ensures fault { IfErr result (λ end. Refuses text.now end) }
+    ensures read { (expr : Expr) → length text.now ≤ 65536 → Reads (lexemes_of text.now) expr → MatchResult result (λ e. e ≡ expr) (λ end. end ≡ ParseEnd.Memory) }
 {
     let bytes = text.as_bytes();
     if bytes.len() > LONGEST {
