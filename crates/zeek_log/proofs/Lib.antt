@@ -1,4 +1,1 @@
-pub mod Ahead
-pub mod HeadLemmas
-pub mod LineLemmas
-pub mod RowLemmas
+
