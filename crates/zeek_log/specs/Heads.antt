@@ -11,6 +11,7 @@ use Rattle.vast_value.specs.Headings.{Heading}
 use Rattle.vast_value.specs.Layouts.{is_empty}
 use Rattle.value_text.specs.declared.marks.Marks.{Marks}
 use Rattle.value_text.specs.Addresses.{is_hexadecimal, digit_value}
+use Rattle.zeek_log.specs.declared.fault.At.{At}
 use Rattle.zeek_log.specs.declared.fault.ZeekFault.{ZeekFault}
 use Rattle.zeek_log.specs.declared.fault.ZeekFault.TheVariants.{TooManyColumns, EmptyName, SameName, UnknownKind, Floating}
 
@@ -38,11 +39,6 @@ single_byte _ = None
 abbrev pub separator_of : List ℕ → Option ℕ
 separator_of value =
     option_and_then (λ b. if b == 10 || (b == 35 || b == 92) then None else Some b) (single_byte value)
-
--- a fault in a column, from 1; column 0 is the line itself
-pub record At : Type 0 where
-  pub column : ℕ
-  pub what : ZeekFault
 
 -- what is wrong with the n-th name, which follows these
 abbrev pub name_fault : ℕ → List (List ℕ) → List ℕ → Option At

@@ -11,7 +11,8 @@ use Rattle.value_text.specs.declared.marks.Marks.{Marks}
 use Rattle.value_text.specs.Reading.{cell_read}
 use Rattle.zeek_log.specs.declared.fault.ZeekFault.{ZeekFault}
 use Rattle.zeek_log.specs.declared.fault.ZeekFault.TheVariants.{NoHead, BadSeparator, FieldsTypes, CellCount, BadCell, LineTooLong}
-use Rattle.zeek_log.specs.Heads.{Told, opening, At, separator_of, names_fault, kinds_read}
+use Rattle.zeek_log.specs.declared.fault.At.{At}
+use Rattle.zeek_log.specs.Heads.{Told, opening, separator_of, names_fault, kinds_read}
 use Rattle.zeek_log.specs.Lines.{is_too_long}
 
 -- what a step says
@@ -53,14 +54,22 @@ fields_with (name ∷ names) (kind ∷ kinds) = field_with name kind ∷ fields_
 abbrev pub head_told : Told → Heading → Outcome
 head_told told heading = Gives (record { separator = told.separator; marks = told.marks; path = told.path; names = told.names; heading = Some heading }) (Head heading)
 
-abbrev pub kinds_told : Told → Result (List Kind) At → Outcome
-kinds_told told (Err at) = breaks_at at
-kinds_told told (Ok kinds) = head_told told (record { path = told.path; fields = fields_with told.names kinds })
+-- the fields of names and kinds
+abbrev pub fields_made : List (List ℕ) → Result (List Kind) At → Result (List Field) At
+fields_made names (Ok kinds) = Ok (fields_with names kinds)
+fields_made names (Err at) = Err at
+
+-- the fields of names and types: a type for each name, or what is wrong
+abbrev pub fields_read : List (List ℕ) → List (List ℕ) → Result (List Field) At
+fields_read names types =
+    if length types == length names then fields_made names (kinds_read 1 types) else Err (record { column = 0; what = FieldsTypes })
+
+abbrev pub fields_head : Told → Result (List Field) At → Outcome
+fields_head told (Ok fields) = head_told told (record { path = told.path; fields = fields })
+fields_head told (Err at) = breaks_at at
 
 abbrev pub types_told : Told → List (List ℕ) → Outcome
-types_told told types =
-    if is_empty told.path then Breaks 0 NoHead
-    else (if length types == length told.names then kinds_told told (kinds_read 1 types) else Breaks 0 FieldsTypes)
+types_told told types = if is_empty told.path then Breaks 0 NoHead else fields_head told (fields_read told.names types)
 
 -- a head line by its name, and the value behind the first separator
 abbrev pub named_head : Told → List ℕ → List ℕ → Outcome
@@ -91,18 +100,19 @@ cells_read marks n (field ∷ fields) [] = Ok []
 cells_read marks n (field ∷ fields) (raw ∷ raws) =
     then_cell n (cell_read marks field.kind raw) (cells_read marks (n + 1) fields raws)
 
+-- the cells of raw texts: one for each field, or what is wrong
+abbrev pub row_read : Marks → List Field → List (List ℕ) → Result (List Cell) At
+row_read marks fields raws =
+    if length raws == length fields then cells_read marks 1 fields raws else Err (record { column = 0; what = CellCount })
+
 abbrev pub row_told : Told → Result (List Cell) At → Outcome
 row_told told (Ok cells) = Gives told (Line cells)
 row_told told (Err at) = breaks_at at
 
-abbrev pub cells_told : Told → List Field → List (List ℕ) → Outcome
-cells_told told fields raws =
-    if length raws == length fields then row_told told (cells_read told.marks 1 fields raws) else Breaks 0 CellCount
-
 -- a data line where a path is set
 abbrev pub data_told : Told → Option Heading → List ℕ → Outcome
 data_told told None line = Breaks 0 (if is_empty told.names then NoHead else FieldsTypes)
-data_told told (Some heading) line = cells_told told heading.fields (slice_split (λ b. b == told.separator) line)
+data_told told (Some heading) line = row_told told (row_read told.marks heading.fields (slice_split (λ b. b == told.separator) line))
 
 abbrev pub data_line : Told → List ℕ → Outcome
 data_line told line = if is_empty told.path then Breaks 0 NoHead else data_told told told.heading line

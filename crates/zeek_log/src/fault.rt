@@ -27,3 +27,10 @@ pub enum ZeekFault {
     #[error("a line of more than 1,048,576 bytes")]
     LineTooLong,
 }
+
+/// A fault in a column, counted from 1, or 0 for the line as a whole.
+#[derive(Clone, Copy, Debug, PartialEq, Eq)]
+pub struct At {
+    pub column: u32,
+    pub what: ZeekFault,
+}
