@@ -24,9 +24,13 @@ pub record Told : Type 0 where
   pub names : List (List ℕ)
   pub heading : Option Heading
 
--- the state before any line: a tab parts cells, and the marks are the usual ones
+-- nothing is told but a separator, and the marks are the usual ones
+abbrev pub opened : ℕ → Told
+opened separator = record { separator = separator; marks = record { set_separator = 44; empty = codes "(empty)"; unset = codes "-" }; path = []; names = []; heading = None }
+
+-- the state before any line: a tab parts cells
 abbrev pub opening : Told
-opening = record { separator = 9; marks = record { set_separator = 44; empty = codes "(empty)"; unset = codes "-" }; path = []; names = []; heading = None }
+opening = opened 9
 
 -- one byte, as itself or as `\\xHH`
 abbrev pub single_byte : List ℕ → Option ℕ
@@ -52,6 +56,22 @@ abbrev pub names_fault : ℕ → List (List ℕ) → List (List ℕ) → Option 
 names_fault n before [] = None
 names_fault n before (name ∷ names) = option_or (name_fault n before name) (names_fault (n + 1) (before ++ name ∷ []) names)
 
+-- names, or what is wrong with the first bad one
+abbrev pub unless_at : {X : Type 0} → Option At → X → Result X At
+unless_at None x = Ok x
+unless_at (Some at) x = Err at
+
+abbrev pub names_read : List (List ℕ) → Result (List (List ℕ)) At
+names_read names = unless_at (names_fault 1 [] names) names
+
+abbrev pub other_elem : List ℕ → Option Elem
+other_elem name =
+    if bytes_eq name (codes "enum") then Some elem.Name
+    else (if bytes_eq name (codes "addr") then Some elem.Addr
+    else (if bytes_eq name (codes "subnet") then Some elem.Subnet
+    else (if bytes_eq name (codes "port") then Some elem.Port else None)))
+
+-- the kind of a single value by its type's name
 abbrev pub elem_named : List ℕ → Option Elem
 elem_named name =
     if bytes_eq name (codes "bool") then Some elem.Bool
@@ -60,10 +80,7 @@ elem_named name =
     else (if bytes_eq name (codes "time") then Some elem.Time
     else (if bytes_eq name (codes "interval") then Some elem.Span
     else (if bytes_eq name (codes "string") then Some elem.Text
-    else (if bytes_eq name (codes "enum") then Some elem.Name
-    else (if bytes_eq name (codes "addr") then Some elem.Addr
-    else (if bytes_eq name (codes "subnet") then Some elem.Subnet
-    else (if bytes_eq name (codes "port") then Some elem.Port else None)))))))))
+    else other_elem name)))))
 
 -- what stands between a beginning and a closing bracket
 abbrev pub within_brackets : List ℕ → List ℕ → Option (List ℕ)

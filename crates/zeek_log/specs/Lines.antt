@@ -30,3 +30,7 @@ kept_lines stop (line ∷ (next ∷ more)) = line ∷ kept_lines stop (next ∷ 
 -- A newline ends a line, and the last line may lack it.
 abbrev pub lines_of : Stop → List ℕ → List (List ℕ)
 lines_of stop text = kept_lines stop (slice_split is_newline text)
+
+-- a text split at each separator: one piece more than there are separators
+abbrev pub pieces_of : ℕ → List ℕ → List (List ℕ)
+pieces_of separator text = slice_split (λ b. b == separator) text

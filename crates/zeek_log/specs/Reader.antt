@@ -10,7 +10,8 @@ use Rattle.zeek_log.specs.declared.step.ZeekEnd.{ZeekEnd}
 use Rattle.zeek_log.specs.declared.step.ZeekEnd.TheVariants.{Done, Fault, ReadFault, TooLong, Memory}
 use Rattle.zeek_log.specs.Heads.{Told}
 use Rattle.zeek_log.specs.Lines.{Stop, AllThere, Failed, AtBound, lines_of}
-use Rattle.zeek_log.specs.Steps.{Steps, ended, first, step_of, steps_from, end_of, most_bytes}
+use Rattle.zeek_log.specs.Steps.{Steps, ended, first, step_of, steps_from, end_of}
+use Rattle.zeek_log.specs.Taking.{most_bytes}
 
 -- Before its end a reader has what the lines so far told, and the number of the next line, from 1. Where the last line,
 -- which no newline ends, gave a step, nothing but the end is to come.

@@ -7,6 +7,7 @@ use Rattle.zeek_log.specs.declared.step.ZeekEnd.{ZeekEnd}
 use Rattle.zeek_log.specs.declared.step.ZeekEnd.TheVariants.{Done, Fault, ReadFault, TooLong}
 use Rattle.zeek_log.specs.Heads.{Told, opening}
 use Rattle.zeek_log.specs.Lines.{Stop, AllThere, Failed, AtBound, lines_of}
+use Rattle.zeek_log.specs.Taking.{most_bytes}
 use Rattle.zeek_log.specs.Table.{LogStep, Head, Line, Outcome, Goes, Gives, Breaks, line_outcome}
 
 pub record Steps : Type 0 where
@@ -42,10 +43,6 @@ end_of AtBound = TooLong
 -- the steps of bytes, after which no more come for the reason
 abbrev pub steps_of : List ℕ → Stop → Steps
 steps_of bytes stop = steps_from 1 (end_of stop) opening (lines_of stop bytes)
-
--- no more bytes than these are taken of a source
-abbrev pub most_bytes : ℕ
-most_bytes = 2 ^ 36
 
 abbrev pub taken_steps : List ℕ → List ℕ → Bool → Steps
 taken_steps bytes taken failed =

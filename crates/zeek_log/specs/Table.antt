@@ -1,7 +1,7 @@
 -- What one line does: the table of head lines, data lines and their faults. The checks of one line come in the order in
 -- which they stand here.
 use Rattle.std.specs.Prelude.{ℕ, ◌+◌, Bool, true, false, not, ◌&&◌, ◌==◌, if◌then◌else◌, List, [], ◌∷◌, Option, None, Some, Result, Ok, Err, length, drop, codes, nat_eq, map}
-use Rattle.std.specs.List.{slice_split, before_first, after_first, starts_with, zip}
+use Rattle.std.specs.List.{before_first, after_first, starts_with, zip}
 use Rattle.std.specs.Str.{bytes_eq}
 use Rattle.vast_value.specs.declared.cell.Cell.{Cell}
 use Rattle.vast_value.specs.declared.kind.Kind.{Kind}
@@ -12,8 +12,8 @@ use Rattle.value_text.specs.Reading.{cell_read}
 use Rattle.zeek_log.specs.declared.fault.ZeekFault.{ZeekFault}
 use Rattle.zeek_log.specs.declared.fault.ZeekFault.TheVariants.{NoHead, BadSeparator, FieldsTypes, CellCount, BadCell, LineTooLong}
 use Rattle.zeek_log.specs.declared.fault.At.{At}
-use Rattle.zeek_log.specs.Heads.{Told, opening, separator_of, names_fault, kinds_read}
-use Rattle.zeek_log.specs.Lines.{is_too_long}
+use Rattle.zeek_log.specs.Heads.{Told, opened, separator_of, names_read, kinds_read}
+use Rattle.zeek_log.specs.Lines.{is_too_long, pieces_of}
 
 -- what a step says
 pub data LogStep : Type 0 where
@@ -32,16 +32,27 @@ breaks_at at = Breaks at.column at.what
 -- all else returns to the opening state, and the separator becomes the byte
 abbrev pub separator_told : Option ℕ → Outcome
 separator_told None = Breaks 0 BadSeparator
-separator_told (Some byte) = Goes (record opening { separator = byte })
+separator_told (Some byte) = Goes (opened byte)
 
 abbrev pub set_separator_told : Told → Option ℕ → Outcome
 set_separator_told told None = Breaks 0 BadSeparator
 set_separator_told told (Some byte) = Goes (record told { marks = record { set_separator = byte; empty = told.marks.empty; unset = told.marks.unset } })
 
 -- The names; the types are forgotten, and the layout before ends.
-abbrev pub fields_told : Told → List (List ℕ) → Option At → Outcome
-fields_told told names None = Goes (record { separator = told.separator; marks = told.marks; path = told.path; names = names; heading = None })
-fields_told told names (Some at) = breaks_at at
+abbrev pub names_told : Told → Result (List (List ℕ)) At → Outcome
+names_told told (Ok names) = Goes (record { separator = told.separator; marks = told.marks; path = told.path; names = names; heading = None })
+names_told told (Err at) = breaks_at at
+
+abbrev pub empty_told : Told → List ℕ → Outcome
+empty_told told value =
+    Goes (record { separator = told.separator; marks = record { set_separator = told.marks.set_separator; empty = value; unset = told.marks.unset }; path = told.path; names = told.names; heading = told.heading })
+
+abbrev pub unset_told : Told → List ℕ → Outcome
+unset_told told value =
+    Goes (record { separator = told.separator; marks = record { set_separator = told.marks.set_separator; empty = told.marks.empty; unset = value }; path = told.path; names = told.names; heading = told.heading })
+
+abbrev pub path_told : Told → List ℕ → Outcome
+path_told told value = Goes (record { separator = told.separator; marks = told.marks; path = value; names = told.names; heading = told.heading })
 
 abbrev pub field_with : List ℕ → Kind → Field
 field_with name kind = record { name = name; kind = kind }
@@ -75,11 +86,11 @@ types_told told types = if is_empty told.path then Breaks 0 NoHead else fields_h
 abbrev pub named_head : Told → List ℕ → List ℕ → Outcome
 named_head told name value =
     if bytes_eq name (codes "#set_separator") then set_separator_told told (separator_of value)
-    else (if bytes_eq name (codes "#empty_field") then Goes (record { separator = told.separator; marks = record { set_separator = told.marks.set_separator; empty = value; unset = told.marks.unset }; path = told.path; names = told.names; heading = told.heading })
-    else (if bytes_eq name (codes "#unset_field") then Goes (record { separator = told.separator; marks = record { set_separator = told.marks.set_separator; empty = told.marks.empty; unset = value }; path = told.path; names = told.names; heading = told.heading })
-    else (if bytes_eq name (codes "#path") then Goes (record { separator = told.separator; marks = told.marks; path = value; names = told.names; heading = told.heading })
-    else (if bytes_eq name (codes "#fields") then fields_told told (slice_split (λ b. b == told.separator) value) (names_fault 1 [] (slice_split (λ b. b == told.separator) value))
-    else (if bytes_eq name (codes "#types") then types_told told (slice_split (λ b. b == told.separator) value)
+    else (if bytes_eq name (codes "#empty_field") then empty_told told value
+    else (if bytes_eq name (codes "#unset_field") then unset_told told value
+    else (if bytes_eq name (codes "#path") then path_told told value
+    else (if bytes_eq name (codes "#fields") then names_told told (names_read (pieces_of told.separator value))
+    else (if bytes_eq name (codes "#types") then types_told told (pieces_of told.separator value)
     else Goes told)))))
 
 -- `#separator`, one space and a value; any other head line by its name. What has no name here is skipped.
@@ -112,7 +123,7 @@ row_told told (Err at) = breaks_at at
 -- a data line where a path is set
 abbrev pub data_told : Told → Option Heading → List ℕ → Outcome
 data_told told None line = Breaks 0 (if is_empty told.names then NoHead else FieldsTypes)
-data_told told (Some heading) line = row_told told (row_read told.marks heading.fields (slice_split (λ b. b == told.separator) line))
+data_told told (Some heading) line = row_told told (row_read told.marks heading.fields (pieces_of told.separator line))
 
 abbrev pub data_line : Told → List ℕ → Outcome
 data_line told line = if is_empty told.path then Breaks 0 NoHead else data_told told told.heading line

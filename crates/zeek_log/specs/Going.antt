@@ -1,0 +1,48 @@
+-- How a reader goes on by one line.
+use Rattle.std.specs.Prelude.{◌≡◌, ℕ, ◌+◌, Bool, true, false, List, ◌++◌, Option, None, Some, Result, Ok, Err, length, ⊤}
+use Rattle.std.specs.Io.KnownBytes.{prepend_known}
+use Rattle.vast_io.specs.Told.{IsAtEnd}
+use Rattle.zeek_log.specs.declared.reader.Phase.{Phase}
+use Rattle.zeek_log.specs.declared.reader.Phase.TheVariants as phase
+use Rattle.zeek_log.specs.declared.step.Step.{Step}
+use Rattle.zeek_log.specs.declared.step.ZeekEnd.{ZeekEnd}
+use Rattle.zeek_log.specs.Answers.{Keeps}
+use Rattle.zeek_log.specs.Heads.{Told}
+use Rattle.zeek_log.specs.Lines.{Stop}
+use Rattle.zeek_log.specs.Reader.{Reading, State, Reads, Last, Ended, to_come, StepsOn, EndsAs, CountsBy, heading_told, StepFits}
+
+-- a reader's state by how far it is, what is known, and the number of the next line
+abbrev pub state_of : Phase → Told → ℕ → State
+state_of phase.Reads told n = Reads told n
+state_of phase.Last told n = Last told
+state_of (phase.Ended e) told n = Ended e
+
+abbrev pub is_reading : State → Bool
+is_reading (Reads told n) = true
+is_reading _ = false
+
+-- lines without a step went by: what was to come is to come
+pub record GoesOn (old new : Reading) (before now : Option (List ℕ)) : Type 0 where
+  pub took : List ℕ
+  pub left : before ≡ prepend_known took now
+  pub count : new.taken ≡ old.taken + length took
+  pub is : (more : List ℕ) (stop : Stop) → to_come old (took ++ more) stop ≡ to_come new more stop
+  pub reads : is_reading new.state ≡ true
+  pub keeps : Keeps (heading_told old.state) (heading_told new.state)
+
+-- all that is to come is an end
+pub record Meets (old new : Reading) (before now : Option (List ℕ)) (e : ZeekEnd) : Type 0 where
+  pub took : List ℕ
+  pub left : before ≡ prepend_known took now
+  pub count : new.taken ≡ old.taken + length took
+  pub is : EndsAs old took now new.taken e
+
+-- a step, and its place
+pub record Gives (old new : Reading) (before now : Option (List ℕ)) (step : Step) : Type 0 where
+  pub steps : StepsOn old new before now step
+  pub fits : StepFits (heading_told old.state) (heading_told new.state) step
+
+abbrev pub LineAnswer : Reading → Reading → Option (List ℕ) → Option (List ℕ) → Result (Option Step) ZeekEnd → Type 0
+LineAnswer old new before now (Ok None) = GoesOn old new before now
+LineAnswer old new before now (Ok (Some step)) = Gives old new before now step
+LineAnswer old new before now (Err e) = Meets old new before now e

@@ -1,0 +1,169 @@
+//! The reader of a log.
+ghost use Rattle.std.specs.Prelude.{◌≡◌, ◌≤◌, [], true, Some, length, is_some, IfOk};
+ghost use Rattle.zeek_log.specs.Going.{LineAnswer, is_reading};
+ghost use Rattle.zeek_log.specs.Heads.{opening};
+ghost use Rattle.zeek_log.specs.Reader.{Answer, Follows, CountsBy, CountsOf, Reads, StepFits, heading_told};
+
+use crate::block::{Block, Found};
+use crate::fault::{At, LineEnd, ZeekFault};
+use crate::known::Known;
+use crate::line::take_line;
+use crate::opening::opened;
+use crate::step::{Step, ZeekEnd};
+use std::alloc::{AllocError, Global};
+use std::marker::Model;
+use vast_io::Source;
+
+/// How far a reader is.
+#[derive(Clone, Copy, Debug, PartialEq, Eq)]
+pub enum Phase {
+    /// Lines come.
+    Reads,
+    /// The last line, which no newline ended, gave a step.
+    Last,
+    /// Nothing more comes.
+    Ended(ZeekEnd),
+}
+
+/// Reads a log from any source, line by line.
+///
+/// It takes at most 2^36 bytes, and keeps at most one line and a block of them. Contracts see what the lines so far told
+/// with the number of the next line, the bytes that it keeps, and how many it took.
+#[derive(Drop)]
+pub struct ZeekReader {
+    phase: Phase,
+    known: Known,
+    line: u64,
+    block: Block,
+}
+
+impl Model for ZeekReader {
+    ghost use Rattle.std.specs.Prelude.{◌≤◌, ◌+◌, length};
+    ghost use Rattle.zeek_log.specs.Answers.{told_of};
+    ghost use Rattle.zeek_log.specs.Going.{state_of};
+    ghost use Rattle.zeek_log.specs.Reader.{Reading};
+
+    ghost Value = { Reading };
+
+    ghost view = { λ r. record { state = state_of r.phase (told_of r.known) r.line; held = r.block.bytes; taken = r.block.taken } };
+
+    ghost invariant = { λ r. r.line + length r.block.bytes ≤ r.block.taken + 1 };
+}
+
+impl ZeekReader {
+    /// A reader that has read nothing.
+    pub fn new(alloc: Global) -> Result<Self, AllocError>
+        ensures { IfOk result (λ reader. reader ≡ record { state = Reads opening 1; held = []; taken = 0 }) }
+    {
+        let known = opened(alloc, b'\t')?;
+        let block = Block::new(alloc)?;
+        Ok(ZeekReader {
+            phase: Phase::Reads,
+            known,
+            line: 1,
+            block,
+        })
+    }
+
+    /// The next step of the log, or why there is none.
+    ///
+    /// A fault comes at the first line with one, in the order of the table's checks. `ReadFault` comes exactly where the
+    /// source's count of faults rose, and `TooLong` where 2^36 bytes were taken. After any end every later call gives
+    /// the same.
+    pub fn next<S: Source>(&mut self, alloc: Global, source: &mut S) -> Result<Step, ZeekEnd>
+        ensures next { Follows self.old.state self.old self.new (S.left source.old) (S.left source.new) result }
+        ensures counts { CountsOf self.old.state result (S.faults source.old) (S.faults source.new) }
+        ensures fits { IfOk result (λ step. StepFits (heading_told self.old.state) (heading_told self.new.state) step) }
+        ensures tells { is_some (S.left source.new) ≡ is_some (S.left source.old) }
+    {
+        match self.phase {
+            Phase::Ended(end) => Err(end),
+            Phase::Last => {
+                self.phase = Phase::Ended(ZeekEnd::Done);
+                Err(ZeekEnd::Done)
+            }
+            Phase::Reads => self.go_on(alloc, source),
+        }
+    }
+
+    /// Takes lines until one gives a step or nothing more comes.
+    fn go_on<S: Source>(&mut self, alloc: Global, source: &mut S) -> Result<Step, ZeekEnd>
+        requires { is_reading self.old.state ≡ true }
+        ensures next { Answer self.old self.new (S.left source.old) (S.left source.new) result }
+        ensures counts { CountsBy result (S.faults source.old) (S.faults source.new) }
+        ensures fits { IfOk result (λ step. StepFits (heading_told self.old.state) (heading_told self.new.state) step) }
+    {
+        loop {
+            match self.take_next(alloc, source) {
+                Ok(Some(step)) => return Ok(step),
+                Ok(None) => {}
+                Err(end) => {
+                    self.phase = Phase::Ended(end);
+                    return Err(end);
+                }
+            }
+        }
+    }
+
+    /// Takes the next line.
+    fn take_next<S: Source>(
+        &mut self,
+        alloc: Global,
+        source: &mut S,
+    ) -> Result<Option<Step>, ZeekEnd>
+        requires { is_reading self.old.state ≡ true }
+        ensures next { LineAnswer self.old self.new (S.left source.old) (S.left source.new) result }
+        ensures counts { LineCounts result (S.faults source.old) (S.faults source.new) }
+    {
+        match self.block.find_line(source) {
+            Found::Line(count) => self.take_ended(alloc, count),
+            Found::Long => Err(ZeekEnd::Fault {
+                line: self.line,
+                column: 0,
+                what: ZeekFault::LineTooLong,
+            }),
+            Found::AtEnd => self.take_last(alloc),
+            Found::Failed => Err(ZeekEnd::ReadFault),
+            Found::AtBound => Err(ZeekEnd::TooLong),
+            Found::Memory => Err(ZeekEnd::Memory),
+        }
+    }
+
+    /// Takes a line of so many bytes, and its newline.
+    fn take_ended(&mut self, alloc: Global, count: usize) -> Result<Option<Step>, ZeekEnd> {
+        let (line, _) = self.block.as_slice().split_at(count);
+        let outcome = take_line(alloc, &mut self.known, line);
+        self.block.skip(count + 1);
+        let number = self.line;
+        self.line += 1;
+        end_at(number, outcome)
+    }
+
+    /// Takes what is held as the last line.
+    fn take_last(&mut self, alloc: Global) -> Result<Option<Step>, ZeekEnd> {
+        match end_at(
+            self.line,
+            take_line(alloc, &mut self.known, self.block.as_slice()),
+        ) {
+            Ok(Some(step)) => {
+                self.phase = Phase::Last;
+                Ok(Some(step))
+            }
+            Ok(None) => Err(ZeekEnd::Done),
+            Err(end) => Err(end),
+        }
+    }
+}
+
+/// A line's outcome, with its number.
+fn end_at(number: u64, outcome: Result<Option<Step>, LineEnd>) -> Result<Option<Step>, ZeekEnd> {
+    match outcome {
+        Ok(step) => Ok(step),
+        Err(LineEnd::Bad(At { column, what })) => Err(ZeekEnd::Fault {
+            line: number,
+            column,
+            what,
+        }),
+        Err(LineEnd::Memory) => Err(ZeekEnd::Memory),
+    }
+}
