@@ -22,11 +22,11 @@ pub record Takes (took : Took) (old new : Hold) (before now : Option (List ℕ))
   pub held : Holds took new.bytes (old.bytes ++ bytes)
 
 -- how the taking went
-abbrev pub Tells : Took → ℕ → ℕ → Option (List ℕ) → Type 0
-Tells took.Some old new now = old < new
-Tells took.AtEnd old new now = IsAtEnd now × (new < most_bytes)
-Tells took.Failed old new now = ⊤
-Tells took.AtBound old new now = new ≡ most_bytes
+abbrev pub Tells : Took → Hold → Hold → Option (List ℕ) → Type 0
+Tells took.Some old new now = old.taken < new.taken
+Tells took.AtEnd old new now = (new ≡ old) × IsAtEnd now × (new.taken < most_bytes)
+Tells took.Failed old new now = new ≡ old
+Tells took.AtBound old new now = (new ≡ old) × (new.taken ≡ most_bytes)
 Tells took.Memory old new now = ⊤
 
 -- the count of faults rose where a read failed, and nowhere else

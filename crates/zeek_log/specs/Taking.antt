@@ -6,6 +6,9 @@ pub record Hold : Type 0 where
   pub bytes : List ℕ
   pub taken : ℕ
 
+abbrev pub hold : List ℕ → ℕ → Hold
+hold bytes taken = record { bytes = bytes; taken = taken }
+
 -- no more bytes than these are taken of a source
 abbrev pub most_bytes : ℕ
 most_bytes = 2 ^ 36

@@ -1,6 +1,7 @@
 //! The bytes that were taken of a source and belong to no line read yet.
-ghost use Rattle.std.specs.Prelude.{◌≡◌, ◌≤◌, [], length, drop, IfOk};
+ghost use Rattle.std.specs.Prelude.{◌≡◌, ◌≤◌, ◌<◌, [], length, drop, IfOk};
 ghost use Rattle.zeek_log.specs.Finding.{Takes, Tells, Counts, Finds, FindsWhy, took_of};
+ghost use Rattle.zeek_log.specs.Taking.{hold, most_bytes};
 
 use crate::cut::newline_from;
 use crate::held::Held;
@@ -125,26 +126,44 @@ impl Block {
     /// Takes some bytes of a source.
     fn take<S: Source>(&mut self, source: &mut S) -> Took
         ensures takes { Takes result self.old self.new (S.left source.old) (S.left source.new) }
-        ensures tells { Tells result self.old.taken self.new.taken (S.left source.new) }
+        ensures tells { Tells result self.old self.new (S.left source.new) }
         ensures counts { Counts result (S.faults source.old) (S.faults source.new) }
+        ensures room { self.new.taken ≤ most_bytes }
     {
-        let room = MOST_BYTES - self.taken;
-        if room == 0 {
-            return Took::AtBound;
-        }
-        let most = self.into.len().min(room as usize);
-        let (into, _) = self.into.as_mut_slice().split_at_mut(most);
-        match source.read(into) {
-            Ok(0) => Took::AtEnd,
-            Ok(count) => {
-                self.taken += count as u64;
-                match self.held.append(&into[..count]) {
-                    Ok(()) => Took::Some,
-                    Err(_) => Took::Memory,
-                }
+        take_some(source, &mut self.into, &mut self.held, &mut self.taken)
+    }
+}
+
+/// Takes some bytes of a source behind those held.
+fn take_some<S: Source>(
+    source: &mut S,
+    into: &mut [u8],
+    held: &mut Held,
+    taken: &mut u64,
+) -> Took
+    requires into { 0 < length into.old }
+    requires room { taken.old ≤ most_bytes }
+    ensures takes { Takes result (hold held.old taken.old) (hold held.new taken.new) (S.left source.old) (S.left source.new) }
+    ensures tells { Tells result (hold held.old taken.old) (hold held.new taken.new) (S.left source.new) }
+    ensures counts { Counts result (S.faults source.old) (S.faults source.new) }
+    ensures room { taken.new ≤ most_bytes }
+{
+    let room = MOST_BYTES - *taken;
+    if room == 0 {
+        return Took::AtBound;
+    }
+    let most = into.len().min(room as usize);
+    let (into, _) = into.split_at_mut(most);
+    match source.read(into) {
+        Ok(0) => Took::AtEnd,
+        Ok(count) => {
+            *taken += count as u64;
+            match held.append(&into[..count]) {
+                Ok(()) => Took::Some,
+                Err(_) => Took::Memory,
             }
-            Err(Failed) => Took::Failed,
         }
+        Err(Failed) => Took::Failed,
     }
 }
 

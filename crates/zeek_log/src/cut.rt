@@ -34,6 +34,7 @@ pub fn split_piece(separator: u8, text: &[u8]) -> (&[u8], Option<&[u8]>)
 }
 
 /// What stands before the first separator, and what stands behind it.
+#[tactic(auto, using(crate::proofs::ByteLemmas::drop_more))]
 pub fn split_head(separator: u8, line: &[u8]) -> (&[u8], &[u8])
     ensures name { result.0.now ≡ before_first (λ b. b == separator) line.now }
     ensures value { result.1.now ≡ after_first (λ b. b == separator) line.now }
@@ -49,16 +50,19 @@ pub fn split_head(separator: u8, line: &[u8]) -> (&[u8], &[u8])
     (name, value)
 }
 
+#[tactic(auto, using(crate::proofs::CutLemmas::position_found, crate::proofs::CutLemmas::position_none))]
 fn first_separator(separator: u8, line: &[u8]) -> usize
     ensures value { result ≡ position_or_len (λ b. b == separator) line.now }
     ensures within { result ≤ length line.now }
 {
-    line.iter()
-        .position(|byte| *byte == separator)
-        .unwrap_or(line.len())
+    match memchr(separator, line) {
+        Some(at) => at,
+        None => line.len(),
+    }
 }
 
 /// Whether a text has so many pieces.
+#[tactic(auto, using(crate::proofs::CutLemmas::pieces_not_zero))]
 pub fn has_pieces(separator: u8, text: &[u8], count: usize) -> bool
     ensures { result ≡ (length (pieces_of separator text.now) == count) }
 {

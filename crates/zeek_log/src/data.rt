@@ -1,8 +1,9 @@
 //! Data lines.
-ghost use Rattle.std.specs.Prelude.{◌≡◌, ◌≤◌, ◌+◌, ◌^◌, length, map, IfOk, IsTrue};
+ghost use Rattle.std.specs.Prelude.{◌≡◌, ◌≤◌, ◌+◌, ◌^◌, length, map, IfOk, IsTrue, ◌==◌, if◌then◌else◌};
 ghost use Rattle.vast_value.specs.Fit.{fits_columns};
 ghost use Rattle.vast_value.specs.Headings.{field_of};
-ghost use Rattle.zeek_log.specs.Answers.{told_of, Answers, Does, LineFits};
+ghost use Rattle.vast_value.specs.Layouts.{is_empty};
+ghost use Rattle.zeek_log.specs.Answers.{told_of, Answers, Does, LineFits, bad_cell};
 ghost use Rattle.zeek_log.specs.Lines.{pieces_of};
 ghost use Rattle.zeek_log.specs.Table.{data_line, row_read};
 

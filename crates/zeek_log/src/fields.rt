@@ -4,7 +4,7 @@ ghost use Rattle.std.specs.List.{list_any};
 ghost use Rattle.std.specs.Str.{bytes_eq};
 ghost use Rattle.zeek_log.specs.Heads.{name_fault, names_read};
 ghost use Rattle.zeek_log.specs.Lines.{pieces_of};
-ghost use Rattle.zeek_log.specs.Answers.{Answers};
+ghost use Rattle.zeek_log.specs.Answers.{Answers, PushesName};
 
 use crate::cut::split_piece;
 use crate::fault::{At, LineEnd, ZeekFault};
@@ -31,7 +31,7 @@ pub fn read_names(alloc: Global, separator: u8, text: &[u8]) -> Result<Names, Li
 fn push_name(alloc: Global, names: &mut Seq<Bytes>, name: &[u8]) -> Result<(), LineEnd>
     requires few { length names.old ≤ 2 ^ 24 }
     requires short { length name.now ≤ 2 ^ 24 }
-    ensures { Pushes (name_fault (length names.old + 1) names.old name.now) names.old names.new name.now result }
+    ensures { PushesName (name_fault (length names.old + 1) names.old name.now) names.old names.new name.now result }
 {
     if let Some(at) = name_fault(names.as_slice(), name) {
         return Err(LineEnd::Bad(at));

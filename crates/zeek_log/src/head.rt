@@ -1,10 +1,11 @@
 //! Head lines.
-ghost use Rattle.std.specs.Prelude.{◌≡◌, ◌≤◌, ◌+◌, ◌^◌, length, IfOk, map};
-ghost use Rattle.vast_value.specs.Headings.{field_of};
+ghost use Rattle.std.specs.Prelude.{◌≡◌, ◌≤◌, ◌^◌, length, IfOk, IsTrue, map, not};
+ghost use Rattle.vast_value.specs.Headings.{field_of, heading_of};
+ghost use Rattle.vast_value.specs.Layouts.{is_empty};
 ghost use Rattle.zeek_log.specs.Answers.{told_of, Answers, Does, LineFits};
-ghost use Rattle.zeek_log.specs.Heads.{separator_of};
+ghost use Rattle.zeek_log.specs.Heads.{separator_of, names_read};
 ghost use Rattle.zeek_log.specs.Lines.{pieces_of};
-ghost use Rattle.zeek_log.specs.Table.{head_line, named_head, separator_told, set_separator_told, fields_told, fields_read, types_told};
+ghost use Rattle.zeek_log.specs.Table.{head_line, head_told, named_head, names_told, empty_told, unset_told, path_told, separator_told, set_separator_told, fields_read, types_told};
 
 use crate::columns::{layout_of, read_columns};
 use crate::cut::split_head;
@@ -127,7 +128,7 @@ fn path_line(alloc: Global, known: &mut Known, value: &[u8]) -> Result<Option<St
 
 fn fields_line(alloc: Global, known: &mut Known, value: &[u8]) -> Result<Option<Step>, LineEnd>
     requires { length value.now ≤ 2 ^ 24 }
-    ensures does { Does (names_told (told_of known.old) (pieces_of known.old.separator value.now)) (told_of known.new) result }
+    ensures does { Does (names_told (told_of known.old) (names_read (pieces_of known.old.separator value.now))) (told_of known.new) result }
     ensures fits { LineFits (told_of known.old).heading (told_of known.new).heading result }
 {
     match read_names(alloc, known.separator, value) {

@@ -1,11 +1,12 @@
 //! The reader of a log.
-ghost use Rattle.std.specs.Prelude.{◌≡◌, ◌≤◌, [], true, Some, length, is_some, IfOk};
-ghost use Rattle.zeek_log.specs.Going.{LineAnswer, is_reading};
+ghost use Rattle.std.specs.Prelude.{◌≡◌, ◌≤◌, ℕ, List, Option, [], true, None, Some, length, is_some, IfOk, IsErrOf, ⊥};
+ghost use Rattle.memchr.specs.Find.{IsFirstByte, is_byte};
+ghost use Rattle.zeek_log.specs.Going.{LineAnswer, LineCounts, answer_of, is_reading};
 ghost use Rattle.zeek_log.specs.Heads.{opening};
-ghost use Rattle.zeek_log.specs.Reader.{Answer, Follows, CountsBy, CountsOf, Reads, StepFits, heading_told};
+ghost use Rattle.zeek_log.specs.Reader.{Answer, Follows, CountsBy, CountsOf, IsMet, Reads, StepFits, heading_told};
 
 use crate::block::{Block, Found};
-use crate::fault::{At, LineEnd, ZeekFault};
+use crate::fault::{LineEnd, ZeekFault};
 use crate::known::Known;
 use crate::line::take_line;
 use crate::opening::opened;
@@ -130,21 +131,29 @@ impl ZeekReader {
     }
 
     /// Takes a line of so many bytes, and its newline.
-    fn take_ended(&mut self, alloc: Global, count: usize) -> Result<Option<Step>, ZeekEnd> {
+    fn take_ended(&mut self, alloc: Global, count: usize) -> Result<Option<Step>, ZeekEnd>
+        requires reads { is_reading self.old.state ≡ true }
+        requires found { IsFirstByte (is_byte 10) self.old.held (Some count) }
+        ensures next { (now : Option (List ℕ)) → LineAnswer self.old self.new now now result }
+        ensures ends { IsErrOf result ZeekEnd.ReadFault → ⊥ }
+    {
         let (line, _) = self.block.as_slice().split_at(count);
         let outcome = take_line(alloc, &mut self.known, line);
         self.block.skip(count + 1);
         let number = self.line;
         self.line += 1;
-        end_at(number, outcome)
+        answer_of(number, outcome)
     }
 
     /// Takes what is held as the last line.
-    fn take_last(&mut self, alloc: Global) -> Result<Option<Step>, ZeekEnd> {
-        match end_at(
-            self.line,
-            take_line(alloc, &mut self.known, self.block.as_slice()),
-        ) {
+    fn take_last(&mut self, alloc: Global) -> Result<Option<Step>, ZeekEnd>
+        requires reads { is_reading self.old.state ≡ true }
+        requires found { IsFirstByte (is_byte 10) self.old.held None }
+        ensures next { (now : Option (List ℕ)) → IsMet now self.old.taken → LineAnswer self.old self.new now now result }
+        ensures ends { IsErrOf result ZeekEnd.ReadFault → ⊥ }
+    {
+        let outcome = take_line(alloc, &mut self.known, self.block.as_slice());
+        match answer_of(self.line, outcome) {
             Ok(Some(step)) => {
                 self.phase = Phase::Last;
                 Ok(Some(step))
@@ -155,14 +164,16 @@ impl ZeekReader {
     }
 }
 
-/// A line's outcome, with its number.
-fn end_at(number: u64, outcome: Result<Option<Step>, LineEnd>) -> Result<Option<Step>, ZeekEnd> {
+/// A line's outcome as an answer, where the line has this number.
+fn answer_of(number: u64, outcome: Result<Option<Step>, LineEnd>) -> Result<Option<Step>, ZeekEnd>
+    ensures { result ≡ answer_of number outcome }
+{
     match outcome {
         Ok(step) => Ok(step),
-        Err(LineEnd::Bad(At { column, what })) => Err(ZeekEnd::Fault {
+        Err(LineEnd::Bad(at)) => Err(ZeekEnd::Fault {
             line: number,
-            column,
-            what,
+            column: at.column,
+            what: at.what,
         }),
         Err(LineEnd::Memory) => Err(ZeekEnd::Memory),
     }
