@@ -1,11 +1,10 @@
 //! The columns that names and a `#types` line tell.
-ghost use Rattle.std.specs.Prelude.{◌≡◌, ◌≤◌, ◌^◌, length, map, MatchResult, IfOk, IsTrue, not, Ok, Err, is_none};
+ghost use Rattle.std.specs.Prelude.{◌≡◌, ◌≤◌, ◌^◌, length, map, IfOk, IfErr, None};
 ghost use Rattle.vast_value.specs.Headings.{field_of};
-ghost use Rattle.vast_value.specs.Layouts.{layout_fault, is_empty};
+ghost use Rattle.vast_value.specs.Layouts.{layout_fault};
 ghost use Rattle.zeek_log.specs.Answers.{Answers, PushesColumn};
 ghost use Rattle.zeek_log.specs.Heads.{kind_read};
 ghost use Rattle.zeek_log.specs.Lines.{pieces_of};
-ghost use Rattle.zeek_log.specs.Naming.{are_named, is_short};
 ghost use Rattle.zeek_log.specs.Table.{fields_read};
 
 use crate::cut::{has_pieces, split_piece};
