@@ -1,5 +1,7 @@
 pub mod ByteLemmas
 pub mod CutLemmas
+pub mod GoingLemmas
 pub mod HeadLemmas
+pub mod LineLemmas
 pub mod PieceLemmas
 pub mod TakeLemmas

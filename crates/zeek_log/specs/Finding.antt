@@ -10,9 +10,9 @@ use Rattle.zeek_log.specs.declared.block.Took.TheVariants as took
 use Rattle.zeek_log.specs.declared.block.Found.{Found}
 use Rattle.zeek_log.specs.declared.block.Found.TheVariants as found
 
--- bytes of the source were taken, and stand behind those held; where memory was wanting, nothing is said of those held
+-- bytes of the source were taken, and stand behind those held; where memory was wanting, no more than these are held
 abbrev pub Holds : Took → List ℕ → List ℕ → Type 0
-Holds took.Memory new all = ⊤
+Holds took.Memory new all = length new ≤ length all
 Holds _ new all = new ≡ all
 
 pub record Takes (took : Took) (old new : Hold) (before now : Option (List ℕ)) : Type 0 where

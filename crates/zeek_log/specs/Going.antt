@@ -1,5 +1,5 @@
 -- How a reader goes on by one line.
-use Rattle.std.specs.Prelude.{◌≡◌, ℕ, ◌+◌, Bool, true, false, List, ◌++◌, Option, None, Some, Result, Ok, Err, length}
+use Rattle.std.specs.Prelude.{◌≡◌, ℕ, ◌+◌, ◌-◌, Bool, true, false, List, ◌++◌, Option, None, Some, Result, Ok, Err, length}
 use Rattle.std.specs.Io.KnownBytes.{prepend_known}
 use Rattle.vast_io.specs.Causes.{Rose}
 use Rattle.zeek_log.specs.declared.fault.LineEnd.{LineEnd}
@@ -7,7 +7,7 @@ use Rattle.zeek_log.specs.declared.fault.LineEnd.TheVariants.{Bad}
 use Rattle.zeek_log.specs.declared.fault.LineEnd.TheVariants as lines
 use Rattle.zeek_log.specs.declared.step.ZeekEnd.TheVariants.{Fault}
 use Rattle.zeek_log.specs.declared.step.ZeekEnd.TheVariants as ends
-use Rattle.zeek_log.specs.Taking.{Hold}
+use Rattle.zeek_log.specs.Taking.{Hold, most_bytes}
 use Rattle.zeek_log.specs.declared.reader.Phase.{Phase}
 use Rattle.zeek_log.specs.declared.reader.Phase.TheVariants as phase
 use Rattle.zeek_log.specs.declared.step.Step.{Step}
@@ -53,13 +53,14 @@ LineAnswer old new before now (Ok None) = GoesOn old new before now
 LineAnswer old new before now (Ok (Some step)) = GivesStep old new before now step
 LineAnswer old new before now (Err e) = Meets old new before now e
 
--- a reader between lines
-abbrev pub reading : Told → ℕ → Hold → Reading
-reading told n hold = record { state = Reads told n; held = hold.bytes; taken = hold.taken }
+-- a reader by its parts
+abbrev pub reading : Phase → Told → ℕ → Hold → Reading
+reading phase told n hold = record { state = state_of phase told n; held = hold.bytes; taken = hold.taken }
 
--- a reader behind its last line
-abbrev pub at_last : Told → Hold → Reading
-at_last told hold = record { state = Last told; held = hold.bytes; taken = hold.taken }
+-- each line has a byte, so there are no more than this
+abbrev pub lines_left : State → ℕ
+lines_left (Reads told n) = most_bytes + 2 - n
+lines_left _ = 0
 
 -- a line's outcome as an answer, where the line has this number
 abbrev pub end_of_line : ℕ → LineEnd → ZeekEnd

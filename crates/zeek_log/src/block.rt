@@ -103,7 +103,9 @@ impl Block {
         ensures finds { Finds result self.new.bytes }
         ensures why { FindsWhy result self.new.taken (S.left source.new) }
         ensures counts { Counts (took_of result) (S.faults source.old) (S.faults source.new) }
+        ensures room { self.new.taken ≤ most_bytes }
     {
+        let _ = &self.taken;
         let mut searched = 0;
         loop {
             if let Some(at) = newline_from(self.as_slice(), searched) {

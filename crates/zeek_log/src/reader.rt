@@ -1,7 +1,7 @@
 //! The reader of a log.
-ghost use Rattle.std.specs.Prelude.{◌≡◌, ◌≤◌, ℕ, List, Option, [], true, None, Some, length, is_some, IfOk, IsErrOf, ⊥};
+ghost use Rattle.std.specs.Prelude.{◌≡◌, ◌<◌, ◌≤◌, ℕ, List, Option, [], true, None, Some, Ok, is_some, IfOk};
 ghost use Rattle.memchr.specs.Find.{IsFirstByte, is_byte};
-ghost use Rattle.zeek_log.specs.Going.{LineAnswer, LineCounts, answer_of, is_reading};
+ghost use Rattle.zeek_log.specs.Going.{LineAnswer, LineCounts, answer_of, is_reading, lines_left};
 ghost use Rattle.zeek_log.specs.Heads.{opening};
 ghost use Rattle.zeek_log.specs.Reader.{Answer, Follows, CountsBy, CountsOf, IsMet, Reads, StepFits, heading_told};
 
@@ -43,12 +43,13 @@ impl Model for ZeekReader {
     ghost use Rattle.zeek_log.specs.Answers.{told_of};
     ghost use Rattle.zeek_log.specs.Going.{state_of};
     ghost use Rattle.zeek_log.specs.Reader.{Reading};
+    ghost use Rattle.zeek_log.specs.Taking.{most_bytes};
 
     ghost Value = { Reading };
 
     ghost view = { λ r. record { state = state_of r.phase (told_of r.known) r.line; held = r.block.bytes; taken = r.block.taken } };
 
-    ghost invariant = { λ r. r.line + length r.block.bytes ≤ r.block.taken + 1 };
+    ghost invariant = { λ r. (r.line + length r.block.bytes ≤ r.block.taken + 1) × (r.block.taken ≤ most_bytes) };
 }
 
 impl ZeekReader {
@@ -115,6 +116,7 @@ impl ZeekReader {
         requires { is_reading self.old.state ≡ true }
         ensures next { LineAnswer self.old self.new (S.left source.old) (S.left source.new) result }
         ensures counts { LineCounts result (S.faults source.old) (S.faults source.new) }
+        ensures less { result ≡ Ok None → lines_left self.new.state < lines_left self.old.state }
     {
         match self.block.find_line(source) {
             Found::Line(count) => self.take_ended(alloc, count),
@@ -135,7 +137,8 @@ impl ZeekReader {
         requires reads { is_reading self.old.state ≡ true }
         requires found { IsFirstByte (is_byte 10) self.old.held (Some count) }
         ensures next { (now : Option (List ℕ)) → LineAnswer self.old self.new now now result }
-        ensures ends { IsErrOf result ZeekEnd.ReadFault → ⊥ }
+        ensures counts { (n : ℕ) → LineCounts result n n }
+        ensures less { result ≡ Ok None → lines_left self.new.state < lines_left self.old.state }
     {
         let (line, _) = self.block.as_slice().split_at(count);
         let outcome = take_line(alloc, &mut self.known, line);
@@ -150,7 +153,8 @@ impl ZeekReader {
         requires reads { is_reading self.old.state ≡ true }
         requires found { IsFirstByte (is_byte 10) self.old.held None }
         ensures next { (now : Option (List ℕ)) → IsMet now self.old.taken → LineAnswer self.old self.new now now result }
-        ensures ends { IsErrOf result ZeekEnd.ReadFault → ⊥ }
+        ensures counts { (n : ℕ) → LineCounts result n n }
+        ensures some { result ≡ Ok None → ⊥ }
     {
         let outcome = take_line(alloc, &mut self.known, self.block.as_slice());
         match answer_of(self.line, outcome) {

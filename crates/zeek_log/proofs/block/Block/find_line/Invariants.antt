@@ -10,6 +10,7 @@ abbrev pub invariant-loop-at : goal.invariant-loop-at
 invariant-loop-at g l = record {
   takes : Takes Some l.initial.self l.self (g.S.Source.left l.initial.source) (g.S.Source.left l.source);
   kept : g.S.Source.faults l.source ≡ g.S.Source.faults l.initial.source;
+  room : l.self.taken ≤ most_bytes;
   within : l.searched ≤ length l.self.bytes;
   none : Nowhere (Passes (is_byte 10) l.self.bytes) 0 l.searched;
 }
