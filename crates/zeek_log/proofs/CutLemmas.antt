@@ -1,14 +1,13 @@
 -- The first piece of a text, by the first separator.
-use Rattle.std.proofs.Common.{◌≡◌, ℕ, zero, suc, ◌+◌, ◌-◌, ◌<◌, ◌≤◌, ◌==◌, Bool, true, false, not, List, [], ◌∷◌, ◌++◌, Option, None, Some, length, take, drop, get_or, refl, ap, sym, ◌∙◌, subst, add-one, arith, cond}
+use Rattle.std.proofs.Common.{◌≡◌, ℕ, zero, suc, ◌+◌, ◌-◌, ◌<◌, ◌≤◌, ◌==◌, Bool, true, false, List, [], ◌∷◌, None, Some, length, take, drop, get_or, refl, ap, sym, ◌∙◌, subst, add-one, arith, cond}
 use Rattle.std.proofs.lemmas.Bool.Decides.{nat_tests}
 use Rattle.std.specs.List.{slice_split, onto_first, position_or_len}
 use Rattle.std.proofs.lemmas.List.Sums.{position_or_len_is}
-use Rattle.std.proofs.lemmas.List.{length-take, length-drop, drop-drop, drop_all, get_or-drop}
-use Rattle.std.proofs.Math.Seq.{take-length}
+use Rattle.std.proofs.lemmas.List.{length-take, length-drop, drop-drop, get_or-drop}
 use Rattle.memchr.proofs.lemmas.FindLemmas.{Nowhere-then}
-use Rattle.memchr.specs.Find.{IsFirstByte, NoneBefore, Nowhere, Passes, is_byte}
+use Rattle.memchr.specs.Find.{IsFirstByte, Nowhere, Passes, is_byte}
 use Rattle.vast_value.specs.Layouts.{is_empty}
-use Rattle.zeek_log.specs.Cuts.{SplitsPiece, pieces_left}
+use Rattle.zeek_log.specs.Cuts.{SplitsPiece}
 use Rattle.zeek_log.specs.Lines.{pieces_of}
 
 pub not_true : (b : Bool) → ¬ (b ≡ true) → b ≡ false
@@ -87,12 +86,14 @@ pub found_behind : (p : ℕ → Bool) (text rest : List ℕ) (from k : ℕ) → 
     → IsFirstByte p rest (Some k) → IsFirstByte p text (Some (from + k))
 found_behind p text rest from k none back le first =
     let len : length rest ≡ length (drop from text) = ap length back in
-    let same : from + k - from ≡ k = omega arith in
-    (record {
-      low = omega arith;
-      high = omega (arith, first.0.high, len, length-drop from text);
-      before = Nowhere-then none (none_behind p text rest from k back first.0.before);
-    }, subst (λ (b : ℕ). p b ≡ true) (ap (λ (i : ℕ). get_or rest i 0) (sym same) ∙ behind_at text rest from (from + k) back (omega arith)) first.1)
+    let same : from + k - from ≡ k = omega arith in (
+      record {
+        low = omega arith;
+        high = omega (arith, first.0.high, len, length-drop from text);
+        before = Nowhere-then none (none_behind p text rest from k back first.0.before);
+      },
+      subst (λ (b : ℕ). p b ≡ true) (ap (λ (i : ℕ). get_or rest i 0) (sym same) ∙ behind_at text rest from (from + k) back (omega arith)) first.1,
+    )
 
 pub none_found_behind : (p : ℕ → Bool) (text rest : List ℕ) (from : ℕ) → Nowhere (Passes p text) 0 from → rest ≡ drop from text → from ≤ length text
     → IsFirstByte p rest None → IsFirstByte p text None

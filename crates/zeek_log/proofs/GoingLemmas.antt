@@ -1,11 +1,9 @@
 -- How a reader goes on: lines without a step, and then an answer.
-use Rattle.std.proofs.Common.{◌≡◌, ℕ, suc, ◌+◌, ◌<◌, ◌≤◌, ◌⊎◌, inl, inr, Bool, true, false, List, [], ◌∷◌, ◌++◌, Option, None, Some, Result, Ok, Err, length, take, drop, refl, ap, sym, ◌∙◌, subst, arith, append_assoc, length-append, add-one}
-use Rattle.std.proofs.lemmas.List.{append-nil}
+use Rattle.std.proofs.Common.{◌≡◌, ℕ, ◌+◌, ◌<◌, ◌≤◌, inl, inr, true, List, [], ◌∷◌, ◌++◌, Option, None, Some, Result, Ok, Err, length, take, drop, refl, ap, sym, ◌∙◌, subst, arith, append_assoc, length-append, add-one}
 use Rattle.std.specs.Io.KnownBytes.{prepend_known}
 use Rattle.memchr.specs.Find.{IsFirstByte, is_byte}
 use Rattle.vast_value.specs.Headings.{Heading}
 use Rattle.zeek_log.specs.declared.block.Took.TheVariants as took
-use Rattle.zeek_log.specs.declared.fault.At.{At}
 use Rattle.zeek_log.specs.declared.fault.LineEnd.{LineEnd}
 use Rattle.zeek_log.specs.declared.fault.LineEnd.TheVariants as lines
 use Rattle.zeek_log.specs.declared.fault.ZeekFault.TheVariants.{LineTooLong}
@@ -17,11 +15,11 @@ use Rattle.zeek_log.specs.declared.step.ZeekEnd.{ZeekEnd}
 use Rattle.zeek_log.specs.declared.step.ZeekEnd.TheVariants.{Done, Fault, ReadFault, TooLong, Memory}
 use Rattle.zeek_log.specs.Answers.{Does, Keeps, LineFits}
 use Rattle.zeek_log.specs.Finding.{Takes}
-use Rattle.zeek_log.specs.Going.{GoesOn, GivesStep, Meets, LineAnswer, LineCounts, answer_of, end_of_line, is_reading, lines_left, reading, state_of}
+use Rattle.zeek_log.specs.Going.{GoesOn, Meets, LineAnswer, answer_of, end_of_line, is_reading, reading, state_of}
 use Rattle.zeek_log.specs.Heads.{Told}
-use Rattle.zeek_log.specs.Lines.{Stop, AllThere, Failed, AtBound, lines_of, last_line}
-use Rattle.zeek_log.specs.Reader.{Reading, Reads, Ended, IsMet, EndsAs, Closes, StepsOn, StepFits, heading_told, to_come}
-use Rattle.zeek_log.specs.Steps.{Steps, ended, end_of, first, follow, step_of, steps_from}
+use Rattle.zeek_log.specs.Lines.{Stop, AllThere, Failed, AtBound, lines_of}
+use Rattle.zeek_log.specs.Reader.{Reading, Ended, IsMet, EndsAs, Closes, StepFits, heading_told, to_come}
+use Rattle.zeek_log.specs.Steps.{ended, end_of, follow, steps_from}
 use Rattle.zeek_log.specs.Table.{Outcome, line_outcome}
 use Rattle.zeek_log.specs.Taking.{Hold, most_bytes}
 use Rattle.zeek_log.proofs.LineLemmas.{line_first, line_last, line_long, no_line_failed, no_line_at_bound}

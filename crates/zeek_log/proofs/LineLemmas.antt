@@ -1,16 +1,16 @@
 -- The first line of bytes, whatever bytes follow, and the last.
-use Rattle.std.proofs.Common.{◌≡◌, ℕ, zero, suc, ◌+◌, ◌<◌, ◌≤◌, ◌==◌, Bool, true, false, List, [], ◌∷◌, ◌++◌, Option, None, Some, length, take, drop, get_or, refl, ap, sym, ◌∙◌, subst, arith, cond, nat_lt}
+use Rattle.std.proofs.Common.{◌≡◌, ℕ, suc, ◌+◌, ◌<◌, ◌≤◌, true, false, List, [], ◌∷◌, ◌++◌, None, Some, length, take, drop, get_or, refl, ap, sym, ◌∙◌, subst, arith, cond}
 use Rattle.std.specs.List.{slice_split, onto_first}
 use Rattle.std.proofs.lemmas.Bool.{lt-ltb, le-ltb}
 use Rattle.std.proofs.lemmas.List.{append-nil, drop-append-le, take-append-le, get_or_append_left, length-append}
-use Rattle.memchr.specs.Find.{IsFirstByte, Nowhere, Passes, is_byte}
+use Rattle.memchr.specs.Find.{IsFirstByte, is_byte}
 use Rattle.zeek_log.specs.Heads.{Told}
 use Rattle.zeek_log.specs.Lines.{Stop, AllThere, Failed, AtBound, is_newline, is_too_long, last_line, kept_lines, lines_of}
 use Rattle.zeek_log.specs.Table.{Outcome, Breaks, line_outcome}
 use Rattle.zeek_log.specs.declared.fault.ZeekFault.TheVariants.{LineTooLong}
 use Rattle.zeek_log.specs.declared.step.ZeekEnd.{ZeekEnd}
 use Rattle.zeek_log.specs.declared.step.ZeekEnd.TheVariants.{Fault}
-use Rattle.zeek_log.specs.Steps.{Steps, ended, follow, steps_from}
+use Rattle.zeek_log.specs.Steps.{ended, follow, steps_from}
 use Rattle.zeek_log.proofs.CutLemmas.{not_true, split_first, split_none}
 
 onto_first_kept : (stop : Stop) (x : ℕ) (xs : List (List ℕ)) (l : List ℕ) → kept_lines stop (l ∷ onto_first x xs) ≡ l ∷ kept_lines stop (onto_first x xs)

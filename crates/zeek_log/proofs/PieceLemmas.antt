@@ -1,9 +1,9 @@
 -- Pieces of a line, read one by one: what is still to be read stands ahead of what was.
-use Rattle.std.proofs.Common.{◌≡◌, ℕ, zero, suc, ◌+◌, ◌<◌, ◌≤◌, ◌^◌, ◌==◌, if◌then◌else◌, Bool, true, false, List, [], ◌∷◌, ◌++◌, Option, None, Some, Result, Ok, Err, length, take, drop, get_or, map, refl, ap, sym, ◌∙◌, subst, add-one, arith, append_assoc, length-append, drop-cons, is_some, is_none, IsOkAnd, IsTrue, Bor}
-use Rattle.std.specs.Option.{option_or, option_copied}
+use Rattle.std.proofs.Common.{◌≡◌, ℕ, zero, suc, ◌+◌, ◌<◌, ◌≤◌, ◌^◌, ◌==◌, true, false, List, [], ◌∷◌, ◌++◌, Option, None, Some, Result, Ok, Err, length, take, drop, get_or, map, refl, ap, sym, ◌∙◌, add-one, arith, append_assoc, drop-cons, is_some, is_none, IsOkAnd, Bor}
+use Rattle.std.specs.Option.{option_copied}
 use Rattle.std.proofs.lemmas.Bool.{and_parts, leb-true, ne_eqb}
 use Rattle.std.specs.List.{list_all}
-use Rattle.std.proofs.lemmas.List.{append-nil, drop_all, take_more, length-map}
+use Rattle.std.proofs.lemmas.List.{append-nil, take_more, length-map}
 use Rattle.vast_value.specs.declared.cell.Cell.{Cell}
 use Rattle.vast_value.specs.declared.column.Column.{Column}
 use Rattle.vast_value.specs.declared.kind.Kind.{Kind}
@@ -15,15 +15,15 @@ use Rattle.value_text.specs.declared.marks.Marks.{Marks}
 use Rattle.value_text.specs.Reading.{cell_read}
 use Rattle.zeek_log.specs.declared.fault.At.{At}
 use Rattle.zeek_log.specs.declared.fault.LineEnd.{LineEnd}
-use Rattle.zeek_log.specs.declared.fault.LineEnd.TheVariants.{Bad, Memory}
-use Rattle.zeek_log.specs.declared.fault.ZeekFault.TheVariants.{BadCell, CellCount, FieldsTypes}
-use Rattle.zeek_log.specs.Answers.{Answers, PushesName, PushesColumn, bad_cell}
-use Rattle.zeek_log.specs.Cuts.{pieces_left, length_left}
-use Rattle.zeek_log.specs.Heads.{name_fault, names_fault, names_read, kind_read, kinds_read, then_kind, unless_at}
+use Rattle.zeek_log.specs.declared.fault.LineEnd.TheVariants.{Bad}
+use Rattle.zeek_log.specs.declared.fault.ZeekFault.TheVariants.{CellCount}
+use Rattle.zeek_log.specs.Answers.{Answers}
+use Rattle.zeek_log.specs.Cuts.{pieces_left}
+use Rattle.zeek_log.specs.Heads.{names_fault, kind_read, kinds_read, then_kind}
 use Rattle.zeek_log.specs.Lines.{pieces_of}
 use Rattle.zeek_log.specs.Naming.{are_named, is_short}
 use Rattle.zeek_log.proofs.CutLemmas.{pieces_some}
-use Rattle.zeek_log.specs.Table.{cells_read, row_read, then_cell, field_with, fields_with, fields_made, fields_read}
+use Rattle.zeek_log.specs.Table.{cells_read, row_read, then_cell, field_with, fields_made}
 
 abbrev pub ahead : {X : Type 0} → List X → Result (List X) At → Result (List X) At
 ahead done (Ok rest) = Ok (done ++ rest)

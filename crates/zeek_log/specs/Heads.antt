@@ -1,5 +1,5 @@
 -- What the head lines of a log have told, and the names of types.
-use Rattle.std.specs.Prelude.{ℕ, ◌+◌, ◌-◌, ◌*◌, Bool, true, false, not, ◌&&◌, ◌||◌, ◌==◌, if◌then◌else◌, List, [], ◌∷◌, ◌++◌, Option, None, Some, Result, Ok, Err, length, take, drop, codes, nat_eq, nat_lt}
+use Rattle.std.specs.Prelude.{ℕ, ◌+◌, ◌-◌, ◌*◌, Bool, ◌&&◌, ◌||◌, ◌==◌, if◌then◌else◌, List, [], ◌∷◌, ◌++◌, Option, None, Some, Result, Ok, Err, length, take, drop, codes, nat_eq, nat_lt}
 use Rattle.std.specs.List.{list_any, starts_with, ends_with}
 use Rattle.std.specs.Option.{option_map, option_and_then, option_or, ok_or}
 use Rattle.std.specs.Str.{bytes_eq}
@@ -12,7 +12,6 @@ use Rattle.vast_value.specs.Layouts.{is_empty}
 use Rattle.value_text.specs.declared.marks.Marks.{Marks}
 use Rattle.value_text.specs.Addresses.{is_hexadecimal, digit_value}
 use Rattle.zeek_log.specs.declared.fault.At.{At}
-use Rattle.zeek_log.specs.declared.fault.ZeekFault.{ZeekFault}
 use Rattle.zeek_log.specs.declared.fault.ZeekFault.TheVariants.{TooManyColumns, EmptyName, SameName, UnknownKind, Floating}
 
 -- The separator of cells, the marks, the path and the names of the columns (empty where none is set), and the heading of

@@ -1,5 +1,5 @@
 -- The lines of a text.
-use Rattle.std.specs.Prelude.{ℕ, ◌^◌, Bool, ◌==◌, if◌then◌else◌, List, [], ◌∷◌, length, nat_lt}
+use Rattle.std.specs.Prelude.{ℕ, Bool, ◌==◌, if◌then◌else◌, List, [], ◌∷◌, length, nat_lt}
 use Rattle.std.specs.List.{slice_split}
 
 -- why no more bytes come: all are there, a read failed, or so many were taken that no more are

@@ -1,7 +1,7 @@
 -- What one line does: the table of head lines, data lines and their faults. The checks of one line come in the order in
 -- which they stand here.
-use Rattle.std.specs.Prelude.{ℕ, ◌+◌, Bool, true, false, not, ◌&&◌, ◌==◌, if◌then◌else◌, List, [], ◌∷◌, Option, None, Some, Result, Ok, Err, length, drop, codes, nat_eq, map}
-use Rattle.std.specs.List.{before_first, after_first, starts_with, zip}
+use Rattle.std.specs.Prelude.{ℕ, ◌+◌, ◌==◌, if◌then◌else◌, List, [], ◌∷◌, Option, None, Some, Result, Ok, Err, length, drop, codes, nat_eq}
+use Rattle.std.specs.List.{before_first, after_first, starts_with}
 use Rattle.std.specs.Str.{bytes_eq}
 use Rattle.vast_value.specs.declared.cell.Cell.{Cell}
 use Rattle.vast_value.specs.declared.kind.Kind.{Kind}

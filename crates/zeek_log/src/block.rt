@@ -137,12 +137,7 @@ impl Block {
 }
 
 /// Takes some bytes of a source behind those held.
-fn take_some<S: Source>(
-    source: &mut S,
-    into: &mut [u8],
-    held: &mut Held,
-    taken: &mut u64,
-) -> Took
+fn take_some<S: Source>(source: &mut S, into: &mut [u8], held: &mut Held, taken: &mut u64) -> Took
     requires into { 0 < length into.old }
     requires room { taken.old ≤ most_bytes }
     ensures takes { Takes result (hold held.old taken.old) (hold held.new taken.new) (S.left source.old) (S.left source.new) }

@@ -1,4 +1,4 @@
-use Rattle.std.proofs.Common.{◌≡◌, ◌+◌, ◌==◌, length}
+use Rattle.std.proofs.Common.{◌≡◌, ◌==◌, length}
 use Rattle.std.specs.Option.{option_copied}
 use Rattle.zeek_log.specs.Cuts.{pieces_left, length_left}
 use Rattle.zeek_log.specs.Lines.{pieces_of}

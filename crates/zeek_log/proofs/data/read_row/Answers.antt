@@ -1,4 +1,4 @@
-use Rattle.std.proofs.Common.{◌≡◌, ◌≤◌, ◌^◌, ◌&&◌, ℕ, ◌+◌, List, ◌∷◌, Option, Bor, drop, take, length, map, ap, ◌∙◌, sym, arith, true}
+use Rattle.std.proofs.Common.{◌≡◌, ◌≤◌, ◌^◌, ℕ, ◌+◌, List, ◌∷◌, Option, Bor, drop, length, map, ap, ◌∙◌, sym, arith}
 use Rattle.std.specs.Option.{option_copied}
 use Rattle.std.proofs.lemmas.Bool.{and_from}
 use Rattle.vast_value.specs.declared.cell.Cell.{Cell}

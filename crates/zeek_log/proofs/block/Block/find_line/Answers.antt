@@ -1,6 +1,4 @@
-use Rattle.std.proofs.Common.{◌≡◌, ◌≤◌, ℕ, List, Option, None, length, ap, sym, subst, ◌∙◌, arith}
-use Rattle.memchr.specs.Find.{IsFirstByte, is_byte}
-use Rattle.zeek_log.specs.Taking.{Hold}
+use Rattle.std.proofs.Common.{arith}
 use Rattle.zeek_log.specs.declared.block.Took.TheVariants as took
 use Rattle.zeek_log.proofs.TakeLemmas.{takes_more, none_there, few_there}
 use Rattle.zeek_log.proofs.block.Block.find_line.Goals as goal
