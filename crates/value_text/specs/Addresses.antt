@@ -1,10 +1,10 @@
 -- Addresses and subnets, by RFC 4291, 2.2. An IPv4 address a.b.c.d is ::ffff:a.b.c.d.
-use Rattle.std.specs.Prelude.{ℕ, ◌+◌, ◌-◌, ◌*◌, ◌/◌, ◌%◌, ◌^◌, Bool, true, false, ◌&&◌, ◌||◌, ◌==◌, if◌then◌else◌, List, [], ◌∷◌, ◌++◌, Option, None, Some, length, replicate, nat_le}
+use Rattle.std.specs.Prelude.{ℕ, ◌+◌, ◌-◌, ◌*◌, ◌/◌, ◌%◌, ◌^◌, Bool, ◌&&◌, ◌||◌, ◌==◌, if◌then◌else◌, List, [], ◌∷◌, ◌++◌, Option, None, Some, length, replicate, nat_le}
 use Rattle.std.specs.List.{before_first, after_first, slice_split, fold}
 use Rattle.std.specs.Option.{option_map, option_and_then, option_or}
 use Rattle.vast_value.specs.declared.net.Net.{Net}
 use Rattle.vast_value.specs.Nets.{net_of}
-use Rattle.value_text.specs.Numbers.{is_digit, number_of, number_up_to, if_at_most, is_point}
+use Rattle.value_text.specs.Numbers.{is_digit, number_up_to, is_point}
 
 abbrev pub is_colon : ℕ → Bool
 is_colon b = b == 58

@@ -15,7 +15,6 @@ use Rattle.value_text.specs.declared.marks.Marks.{Marks}
 use Rattle.value_text.specs.Addresses.{address_of, subnet_of}
 use Rattle.value_text.specs.Escapes.{unescaped}
 use Rattle.value_text.specs.Numbers.{number_up_to, int_of, span_of}
-use Rattle.vast_value.specs.Kinds.{is_lone_unset}
 
 abbrev pub bool_of : List ℕ → Option Bool
 bool_of text = if bytes_eq text (codes "T") then Some true else (if bytes_eq text (codes "F") then Some false else None)

@@ -1,4 +1,8 @@
 //! Why a text gives no value.
+ghost use Rattle.std.specs.Prelude.{◌≡◌};
+ghost use Rattle.value_text.specs.declared.end.CellEnd.TheVariants.{Memory};
+
+use std::alloc::AllocError;
 
 /// Why a text gives no value or cell.
 #[derive(Clone, Copy, Debug, PartialEq, Eq)]
@@ -7,4 +11,12 @@ pub enum CellEnd {
     BadText,
     /// No memory was left.
     Memory,
+}
+
+impl From<AllocError> for CellEnd {
+    ghost from_gives = { λ _ e. e ≡ Memory };
+
+    fn from(_e: AllocError) -> CellEnd {
+        CellEnd::Memory
+    }
 }

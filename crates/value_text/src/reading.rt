@@ -1,0 +1,265 @@
+//! Reading values and cells.
+ghost use Rattle.std.specs.Prelude.{◌≡◌, ℕ, ◌+◌, ◌^◌, ◌<◌, ◌≤◌, ◌==◌, [], ◌∷◌, if◌then◌else◌, length, IsTrue, IfOk, IsErrOf, OnOk, Some, None, Option, true};
+ghost use Rattle.std.specs.List.{list_all, slice_split};
+ghost use Rattle.std.specs.Option.{option_map};
+ghost use Rattle.std.specs.Str.{bytes_eq};
+ghost use Rattle.vast_value.specs.Fit.{is_bounded, is_bounded_element, is_small};
+ghost use Rattle.vast_value.specs.Kinds.{has_kind};
+ghost use Rattle.value_text.specs.Escapes.{unescaped};
+ghost use Rattle.value_text.specs.Reading.{bool_of, is_text, value_read, set_read, element_read, elements_read, container_read, kind_read, cell_read};
+ghost use Rattle.value_text.specs.Answers.{Gives, PutsElement};
+
+use crate::addresses::{address_of, subnet_of};
+use crate::end::CellEnd;
+use crate::escapes::{has_backslash, unescape};
+use crate::marks::Marks;
+use crate::numbers::{behind_one, first_at, int_of, number_up_to, span_of};
+use std::alloc::{AllocError, Global};
+use vast_value::{Bytes, Cell, Cells, Elem, Kind, Value};
+
+fn bool_of(text: &[u8]) -> Option<bool>
+    ensures { result ≡ bool_of text.now }
+{
+    if text == b"T".as_slice() {
+        return Some(true);
+    }
+    if text == b"F".as_slice() {
+        return Some(false);
+    }
+    None
+}
+
+fn copied(alloc: Global, text: &[u8]) -> Result<Bytes, AllocError>
+    ensures { IfOk result (λ copy. copy ≡ text.now) }
+{
+    let mut copy = Bytes::new(alloc);
+    copy.append(text)?;
+    Ok(copy)
+}
+
+// The value of a kind that a text spells, its escapes being undone.
+#[tactic(auto, unfolding(crate::specs::Reading::value_read))]
+fn value_of(alloc: Global, elem: Elem, text: &[u8]) -> Result<Value, CellEnd>
+    ensures value { Gives result (value_read elem text.now) }
+    ensures bounded { length text.now ≤ 2 ^ 24 → IfOk result (λ value. IsTrue (is_bounded value)) }
+{
+    match elem {
+        Elem::Bool => match bool_of(text) {
+            None => Err(CellEnd::BadText),
+            Some(value) => Ok(Value::Bool(value)),
+        },
+        Elem::Count => match number_up_to(u64::MAX, text) {
+            None => Err(CellEnd::BadText),
+            Some(number) => Ok(Value::Count(number)),
+        },
+        Elem::Int => match int_of(text) {
+            None => Err(CellEnd::BadText),
+            Some(number) => Ok(Value::Int(number)),
+        },
+        Elem::Time => match span_of(text) {
+            None => Err(CellEnd::BadText),
+            Some(time) => Ok(Value::Time(time)),
+        },
+        Elem::Span => match span_of(text) {
+            None => Err(CellEnd::BadText),
+            Some(span) => Ok(Value::Span(span)),
+        },
+        Elem::Text => Ok(Value::Text(copied(alloc, text)?)),
+        Elem::Name => Ok(Value::Name(copied(alloc, text)?)),
+        Elem::Addr => match address_of(text) {
+            None => Err(CellEnd::BadText),
+            Some(address) => Ok(Value::Addr(address)),
+        },
+        Elem::Subnet => match subnet_of(text) {
+            None => Err(CellEnd::BadText),
+            Some(net) => Ok(Value::Subnet(net)),
+        },
+        Elem::Port => match number_up_to(u16::MAX as u64, text) {
+            None => Err(CellEnd::BadText),
+            Some(number) => Ok(Value::Port(number as u16)),
+        },
+    }
+}
+
+/// The value of a kind that a text spells, in which no escape is left to be undone.
+///
+/// A bool is `T` or `F`; a count and a port are digits in their ranges; an int has a minus or none; a time and an interval are
+/// seconds with or without a minus, with a point and none to nine digits or without; an address is four numbers with dots
+/// between them or has the forms of RFC 4291, 2.2; a subnet is an address, a slash and its bits, and what stands behind
+/// those bits becomes 0; a string and an enum are any bytes. Leading zeros are allowed.
+pub fn read_value(alloc: Global, elem: Elem, text: &[u8]) -> Result<Value, CellEnd>
+    ensures value { IfOk result (λ value. value_read elem text.now ≡ Some value) }
+    ensures bad { IsErrOf result CellEnd.BadText → value_read elem text.now ≡ None }
+{
+    value_of(alloc, elem, text)
+}
+
+#[inline]
+fn equals(raw: &[u8], mark: &Bytes) -> bool
+    ensures { result ≡ bytes_eq raw.now mark.now }
+{
+    let mark = mark.as_slice();
+    raw.len() == mark.len() && raw == mark
+}
+
+// A string or an enum that is not unset.
+#[tactic(auto, using(crate::proofs::EscapeLemmas::plain_stays))]
+fn text_read(alloc: Global, marks: &Marks, raw: &[u8]) -> Result<Bytes, AllocError>
+    ensures { IfOk result (λ text. text ≡ (if bytes_eq raw.now marks.now.empty then [] else unescaped raw.now)) }
+{
+    if equals(raw, &marks.empty) {
+        return Ok(Bytes::new(alloc));
+    }
+    if has_backslash(raw) {
+        return unescape(alloc, raw);
+    }
+    copied(alloc, raw)
+}
+
+// A value whose escapes are to be undone.
+fn undone_read(alloc: Global, elem: Elem, raw: &[u8]) -> Result<Value, CellEnd>
+    ensures value { Gives result (value_read elem (unescaped raw.now)) }
+    ensures bounded { length raw.now ≤ 2 ^ 24 → IfOk result (λ value. IsTrue (is_bounded value)) }
+{
+    let text = unescape(alloc, raw)?;
+    value_of(alloc, elem, text.as_slice())
+}
+
+// A value that has escapes or none.
+#[tactic(auto, using(crate::proofs::EscapeLemmas::plain_stays))]
+fn escaped_read(alloc: Global, elem: Elem, raw: &[u8]) -> Result<Value, CellEnd>
+    ensures value { Gives result (value_read elem (unescaped raw.now)) }
+    ensures bounded { length raw.now ≤ 2 ^ 24 → IfOk result (λ value. IsTrue (is_bounded value)) }
+{
+    if has_backslash(raw) {
+        return undone_read(alloc, elem, raw);
+    }
+    value_of(alloc, elem, raw)
+}
+
+// The value of a text that is not unset.
+#[tactic(auto, unfolding(crate::specs::Reading::value_read))]
+fn set_read(alloc: Global, elem: Elem, marks: &Marks, raw: &[u8]) -> Result<Value, CellEnd>
+    ensures value { Gives result (set_read marks.now elem raw.now) }
+    ensures bounded { length raw.now ≤ 2 ^ 24 → IfOk result (λ value. IsTrue (is_bounded value)) }
+{
+    match elem {
+        Elem::Text => Ok(Value::Text(text_read(alloc, marks, raw)?)),
+        Elem::Name => Ok(Value::Name(text_read(alloc, marks, raw)?)),
+        _ => escaped_read(alloc, elem, raw),
+    }
+}
+
+fn element_read(
+    alloc: Global,
+    elem: Elem,
+    marks: &Marks,
+    raw: &[u8],
+) -> Result<Option<Value>, CellEnd>
+    ensures value { Gives result (element_read marks.now elem raw.now) }
+    ensures bounded { length raw.now ≤ 2 ^ 24 → IfOk result (λ item. IsTrue (is_bounded_element item)) }
+{
+    if equals(raw, &marks.unset) {
+        return Ok(None);
+    }
+    match set_read(alloc, elem, marks, raw) {
+        Err(end) => Err(end),
+        Ok(value) => Ok(Some(value)),
+    }
+}
+
+// One more element.
+fn put_element(
+    alloc: Global,
+    elem: Elem,
+    marks: &Marks,
+    raw: &[u8],
+    items: &mut Cells,
+) -> Result<(), CellEnd>
+    ensures value { PutsElement result items.old items.new (element_read marks.now elem raw.now) }
+    ensures bounded { length raw.now ≤ 2 ^ 24 → list_all is_bounded_element items.old ≡ true → OnOk result (list_all is_bounded_element items.new ≡ true) }
+    ensures count { OnOk result (length items.new ≡ length items.old + 1) }
+{
+    match element_read(alloc, elem, marks, raw) {
+        Err(end) => Err(end),
+        Ok(item) => {
+            items.push(item)?;
+            Ok(())
+        }
+    }
+}
+
+fn elements_read(alloc: Global, elem: Elem, marks: &Marks, raw: &[u8]) -> Result<Cells, CellEnd>
+    ensures value { Gives result (elements_read marks.now elem (slice_split (λ b. b == marks.now.set_separator) raw.now)) }
+    ensures bounded { length raw.now ≤ 2 ^ 24 → IfOk result (λ items. list_all is_bounded_element items ≡ true) }
+    ensures count { IfOk result (λ items. length items ≤ length raw.now + 1) }
+{
+    let mut items = Cells::new(alloc);
+    let mut rest = raw;
+    let mut at = first_at(marks.set_separator, rest);
+    while at < rest.len() {
+        let (piece, behind) = rest.split_at(at);
+        match put_element(alloc, elem, marks, piece, &mut items) {
+            Err(end) => return Err(end),
+            Ok(()) => rest = behind_one(behind),
+        }
+        at = first_at(marks.set_separator, rest);
+    }
+    match put_element(alloc, elem, marks, rest, &mut items) {
+        Err(end) => Err(end),
+        Ok(()) => Ok(items),
+    }
+}
+
+fn container_read(alloc: Global, elem: Elem, marks: &Marks, raw: &[u8]) -> Result<Cell, CellEnd>
+    ensures value { Gives result (container_read marks.now elem raw.now) }
+    ensures small { length raw.now < 2 ^ 24 → IfOk result (λ cell. IsTrue (is_small cell)) }
+{
+    if equals(raw, &marks.empty) {
+        return Ok(Cell::Many(Cells::new(alloc)));
+    }
+    match elements_read(alloc, elem, marks, raw) {
+        Err(end) => Err(end),
+        Ok(items) => Ok(Cell::Many(items)),
+    }
+}
+
+fn kind_read(alloc: Global, kind: Kind, marks: &Marks, raw: &[u8]) -> Result<Cell, CellEnd>
+    ensures value { Gives result (kind_read marks.now kind raw.now) }
+    ensures small { length raw.now < 2 ^ 24 → IfOk result (λ cell. IsTrue (is_small cell)) }
+{
+    match kind {
+        Kind::One(elem) => match set_read(alloc, elem, marks, raw) {
+            Err(end) => Err(end),
+            Ok(value) => Ok(Cell::One(value)),
+        },
+        Kind::SetOf(elem) => container_read(alloc, elem, marks, raw),
+        Kind::VecOf(elem) => container_read(alloc, elem, marks, raw),
+    }
+}
+
+#[tactic(auto, unfolding(crate::specs::Reading::cell_read))]
+fn cell_read(alloc: Global, kind: Kind, marks: &Marks, raw: &[u8]) -> Result<Cell, CellEnd>
+    ensures value { Gives result (cell_read marks.now kind raw.now) }
+    ensures small { length raw.now < 2 ^ 24 → IfOk result (λ cell. IsTrue (is_small cell)) }
+{
+    if equals(raw, &marks.unset) {
+        return Ok(Cell::Unset);
+    }
+    kind_read(alloc, kind, marks, raw)
+}
+
+/// The cell of a kind that a log's raw bytes spell.
+///
+/// The raw bytes equal to the unset text are the unset cell; those equal to the empty text are a container without elements,
+/// or the empty string or enum. Any other container is cut at each set separator into elements, of which one equal to the
+/// unset text is unset, and one equal to the empty text is the empty string or enum. All else has its escapes undone
+/// and is read by [`read_value`].
+pub fn read_cell(alloc: Global, kind: Kind, marks: &Marks, raw: &[u8]) -> Result<Cell, CellEnd>
+    ensures cell { IfOk result (λ cell. cell_read marks.now kind raw.now ≡ Some cell) }
+    ensures bad { IsErrOf result CellEnd.BadText → cell_read marks.now kind raw.now ≡ None }
+    ensures kind { IfOk result (λ cell. IsTrue (has_kind cell kind)) }
+    ensures small { length raw.now < 2 ^ 24 → IfOk result (λ cell. IsTrue (is_small cell)) }
+{
+    cell_read(alloc, kind, marks, raw)
+}
