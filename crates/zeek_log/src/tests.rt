@@ -62,6 +62,10 @@ fn a_log_in_pieces_of_any_size_gives_the_same(rt: HostRuntime) -> Result<(), Fai
         let told = read_all(rt.alloc(), LOG, piece, Vec::new(rt.alloc()))?;
         assert_eq!(rt; told, want);
     }
+    let bars = b"#separator \\x7C\n#path|d\n#fields|a|b\n#types|count|set[addr]\n-|1.2.3.4,::1\n";
+    let told = read_all(rt.alloc(), bars, 1000, Vec::new(rt.alloc()))?;
+    assert_eq!(rt; (told.heads, told.rows, told.cells), (1, 1, 2));
+    assert_eq!(rt; told.end, ZeekEnd::Done);
     Ok(())
 }
 
