@@ -16,7 +16,7 @@ const LOG: &[u8] =
 struct Told {
     heads: u32,
     rows: u32,
-    cells: u32,
+    cells: u64,
     end: ZeekEnd,
 }
 
@@ -35,10 +35,10 @@ fn read_all(alloc: Global, bytes: &[u8], piece: u32, fails: Vec<u64>) -> Result<
     };
     for _ in 0..9u32 {
         match reader.next(alloc, &mut source) {
-            Ok(Step::Head(_)) => told.heads = told.heads.wrapping_add(1),
+            Ok(Step::Head(_layout)) => told.heads = told.heads.wrapping_add(1),
             Ok(Step::Line(row)) => {
                 told.rows = told.rows.wrapping_add(1);
-                told.cells = told.cells.wrapping_add(row.as_slice().len() as u32);
+                told.cells = told.cells.wrapping_add(row.as_slice().len() as u64);
             }
             Err(end) => told.end = end,
         }
