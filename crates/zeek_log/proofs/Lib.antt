@@ -1,4 +1,7 @@
-pub mod Ahead
+pub mod ByteLemmas
+pub mod CutLemmas
+pub mod GoingLemmas
 pub mod HeadLemmas
 pub mod LineLemmas
-pub mod RowLemmas
+pub mod PieceLemmas
+pub mod TakeLemmas

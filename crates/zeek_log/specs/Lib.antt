@@ -1,7 +1,11 @@
+pub mod Answers
+pub mod Cuts
+pub mod Finding
+pub mod Going
+pub mod Heads
 pub mod Lines
-pub mod Logs
-pub mod Plain
+pub mod Naming
 pub mod Reader
-pub mod State
 pub mod Steps
+pub mod Table
 pub mod Taking

@@ -1,49 +1,36 @@
--- The lines of a text and the cells of a line.
-use Rattle.std.specs.Prelude.{◌≡◌, ◌≤◌, ◌<◌, ℕ, Bool, List, [], ◌∷◌, ◌==◌, Option, None, Some, length, ◌+◌}
+-- The lines of a text.
+use Rattle.std.specs.Prelude.{ℕ, Bool, ◌==◌, if◌then◌else◌, List, [], ◌∷◌, length, nat_lt}
 use Rattle.std.specs.List.{slice_split}
+
+-- why no more bytes come: all are there, a read failed, or so many were taken that no more are
+pub data Stop : Type 0 where
+  AllThere : Stop
+  Failed : Stop
+  AtBound : Stop
 
 abbrev pub is_newline : ℕ → Bool
 is_newline b = b == 10
 
-abbrev pub is_tab : ℕ → Bool
-is_tab b = b == 9
+-- a line of more than 1,048,576 bytes, its newline not counted
+abbrev pub is_too_long : List ℕ → Bool
+is_too_long line = nat_lt 1048576 (length line)
 
--- what stands after the last newline is a line where it is not empty
-abbrev pub last_line : List ℕ → List (List ℕ)
-last_line [] = []
-last_line (b ∷ bs) = (b ∷ bs) ∷ []
+-- What stands behind the last newline is a line where all bytes are there. Else more of it may be to come, and it is a
+-- line only where it is already too long.
+abbrev pub last_line : Stop → List ℕ → List (List ℕ)
+last_line AllThere line = line ∷ []
+last_line Failed line = if is_too_long line then line ∷ [] else []
+last_line AtBound line = if is_too_long line then line ∷ [] else []
 
-abbrev pub ended_lines : List (List ℕ) → List (List ℕ)
-ended_lines [] = []
-ended_lines (l ∷ []) = last_line l
-ended_lines (l ∷ (m ∷ ms)) = l ∷ ended_lines (m ∷ ms)
+abbrev pub kept_lines : Stop → List (List ℕ) → List (List ℕ)
+kept_lines stop [] = []
+kept_lines stop (line ∷ []) = last_line stop line
+kept_lines stop (line ∷ (next ∷ more)) = line ∷ kept_lines stop (next ∷ more)
 
 -- A newline ends a line, and the last line may lack it.
-abbrev pub lines_of : List ℕ → List (List ℕ)
-lines_of text = ended_lines (slice_split is_newline text)
+abbrev pub lines_of : Stop → List ℕ → List (List ℕ)
+lines_of stop text = kept_lines stop (slice_split is_newline text)
 
--- the cells of a line, parted by tabs: one more than there are tabs
-abbrev pub cells_of : List ℕ → List (List ℕ)
-cells_of line = slice_split is_tab line
-
--- the cells of what follows a tab, or none where no tab is left
-abbrev pub cells_left : Option (List ℕ) → List (List ℕ)
-cells_left None = []
-cells_left (Some rest) = cells_of rest
-
--- the length of what follows, with one for its tab
-abbrev pub length_left : Option (List ℕ) → ℕ
-length_left None = 0
-length_left (Some rest) = length rest + 1
-
--- the first line of a text, and what follows it
-pub record SplitsLine (text line rest : List ℕ) : Type 0 where
-  pub lines : lines_of text ≡ line ∷ lines_of rest
-  pub shorter : length rest < length text
-  pub within : length line ≤ length text
-
--- the first cell of a line, and what follows its tab
-pub record SplitsCell (line cell : List ℕ) (rest : Option (List ℕ)) : Type 0 where
-  pub cells : cells_of line ≡ cell ∷ cells_left rest
-  pub shorter : length_left rest ≤ length line
-  pub within : length cell ≤ length line
+-- a text split at each separator: one piece more than there are separators
+abbrev pub pieces_of : ℕ → List ℕ → List (List ℕ)
+pieces_of separator text = slice_split (λ b. b == separator) text

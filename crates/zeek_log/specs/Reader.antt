@@ -1,55 +1,113 @@
--- What a reader still has to give.
-use Rattle.std.specs.Prelude.{◌≡◌, ℕ, ◌-◌, ◌^◌, ◌<◌, nat_lt, IfSome, Bool, true, false, List, [], ◌∷◌, Option, None, Some, Result, Ok, Err, IsSomeAnd, IsTrue}
-use Rattle.vast_value.specs.declared.column.Column.{Column}
-use Rattle.vast_value.specs.Fit.{fits_columns}
+-- What contracts see of a reader, and what is still to come from it.
+use Rattle.std.specs.Prelude.{◌≡◌, ℕ, ◌+◌, ◌<◌, List, [], ◌++◌, Option, None, Some, Result, Ok, Err, length, IsSomeAnd, IsTrue, ⊤, ◌⊎◌}
+use Rattle.std.specs.Io.KnownBytes.{prepend_known}
+use Rattle.vast_io.specs.Causes.{Rose}
+use Rattle.vast_io.specs.Told.{IsAtEnd}
+use Rattle.vast_value.specs.Headings.{Heading, heading_of, fits_fields}
 use Rattle.zeek_log.specs.declared.step.Step.{Step}
 use Rattle.zeek_log.specs.declared.step.Step.TheVariants as step
 use Rattle.zeek_log.specs.declared.step.ZeekEnd.{ZeekEnd}
-use Rattle.zeek_log.specs.declared.step.ZeekEnd.TheVariants.{Memory}
-use Rattle.zeek_log.specs.Steps.{Steps, LogStep, step_of, steps_of_source}
+use Rattle.zeek_log.specs.declared.step.ZeekEnd.TheVariants.{Done, Fault, ReadFault, TooLong, Memory}
+use Rattle.zeek_log.specs.Heads.{Told}
+use Rattle.zeek_log.specs.Lines.{Stop, AllThere, Failed, AtBound, lines_of}
+use Rattle.zeek_log.specs.Steps.{Steps, ended, first, step_of, steps_from, end_of}
+use Rattle.zeek_log.specs.Taking.{most_bytes}
 
--- A fresh reader gives the steps of its source. Another has these steps ahead, and last gave a head with these columns.
-pub data Reading : Type 0 where
-  Fresh : Reading
-  Ahead : Option (List Column) → Steps → Reading
+-- Before its end a reader has what the lines so far told, and the number of the next line, from 1. Where the last line,
+-- which no newline ends, gave a step, nothing but the end is to come.
+pub data State : Type 0 where
+  Reads : Told → ℕ → State
+  Last : Told → State
+  Ended : ZeekEnd → State
 
-abbrev pub is_fresh : Reading → Bool
-is_fresh Fresh = true
-is_fresh (Ahead columns steps) = false
+-- the bytes that were taken and belong to no line read yet, and how many were taken in all
+pub record Reading : Type 0 where
+  pub state : State
+  pub held : List ℕ
+  pub taken : ℕ
 
-abbrev pub ended : ZeekEnd → Steps
-ended end = record { given = []; end = end }
+abbrev pub come_from : State → List ℕ → Stop → Steps
+come_from (Reads told n) bytes stop = steps_from n (end_of stop) told (lines_of stop bytes)
+come_from (Last told) bytes stop = ended Done
+come_from (Ended e) bytes stop = ended e
 
--- the steps to come, where those of the source are given
-abbrev pub coming : Reading → Steps → Steps
-coming Fresh source = source
-coming (Ahead columns steps) source = steps
+-- what is still to come of a reader by the bytes that its source still gives, after which no more come for the reason
+abbrev pub to_come : Reading → List ℕ → Stop → Steps
+to_come r bytes stop = come_from r.state (r.held ++ bytes) stop
 
-abbrev pub last_columns : Reading → Option (List Column)
-last_columns Fresh = None
-last_columns (Ahead columns steps) = columns
+-- the source has no bytes left, and fewer than the bound were taken of it
+abbrev pub IsMet : Option (List ℕ) → ℕ → Type 0
+IsMet now taken = IsAtEnd now × (taken < most_bytes)
 
-abbrev pub GivesFirst : List LogStep → ZeekEnd → Reading → Step → Type 0
-GivesFirst [] end now step = ⊥
-GivesFirst (x ∷ xs) end now step = (step_of step ≡ x) × (now ≡ Ahead (last_columns now) (record { given = xs; end = end }))
+-- what may still follow the bytes that were taken: anything, but nothing behind a last line that no newline ends
+abbrev pub MayFollow : State → List ℕ → Stop → Type 0
+MayFollow (Last told) more stop = (more ≡ []) × (stop ≡ AllThere)
+MayFollow _ more stop = ⊤
 
-abbrev pub GivesEnd : List LogStep → ZeekEnd → Reading → ZeekEnd → Type 0
-GivesEnd given end now Memory = now ≡ Ahead None (ended Memory)
-GivesEnd given end now e = (given ≡ []) × (e ≡ end) × (now ≡ Ahead None (ended e))
+-- a last line is given only where the end of the source was met
+abbrev pub IsMetAtLast : State → Option (List ℕ) → ℕ → Type 0
+IsMetAtLast (Last told) now taken = IsMet now taken
+IsMetAtLast _ now taken = ⊤
 
--- The answer is the first member of what was to come, and the rest is to come now. Want of memory may come instead, and
--- is then the end. An end, once given, is kept.
-abbrev pub Gives : Steps → Reading → Result Step ZeekEnd → Type 0
-Gives steps now (Ok step) = GivesFirst steps.given steps.end now step
-Gives steps now (Err e) = GivesEnd steps.given steps.end now e
+-- a step is the first of what is still to come, and leaves the rest
+pub record StepsOn (old new : Reading) (before now : Option (List ℕ)) (step : Step) : Type 0 where
+  pub took : List ℕ
+  pub left : before ≡ prepend_known took now
+  pub count : new.taken ≡ old.taken + length took
+  pub is : (more : List ℕ) (stop : Stop) → MayFollow new.state more stop → to_come old (took ++ more) stop ≡ first (step_of step) (to_come new more stop)
+  pub met : IsMetAtLast new.state now new.taken
 
--- a head is the last one now, and a row fits the last head's columns
-abbrev pub StepFits : Option (List Column) → Option (List Column) → Step → Type 0
-StepFits before now (step.Head layout) = now ≡ Some layout.columns
-StepFits before now (step.Line row) = IsSomeAnd before (λ columns. IsTrue (fits_columns columns row)) × (now ≡ before)
+-- all that is still to come is this end, whatever bytes follow those that were taken
+abbrev pub EndsAnyway : Reading → List ℕ → ZeekEnd → Type 0
+EndsAnyway old took e = (more : List ℕ) (stop : Stop) → to_come old (took ++ more) stop ≡ ended e
 
--- The first answer of a fresh reader is the first of the source's steps, where the source tells its bytes and its count
--- of faults can rise.
-abbrev pub IsFirst : Option (List ℕ) → Option (List ℕ) → ℕ → ℕ → Reading → Result Step ZeekEnd → Type 0
-IsFirst left left_now faults faults_now now result =
-    IfSome left (λ bytes. IsSomeAnd left_now (λ rest. faults < 2 ^ 64 - 1 → Gives (steps_of_source bytes rest (nat_lt faults faults_now)) now result))
+-- all that is still to come is this end, and the end of the source was met
+abbrev pub EndsThere : Reading → List ℕ → Option (List ℕ) → ℕ → ZeekEnd → Type 0
+EndsThere old took now taken e = (to_come old took AllThere ≡ ended e) × IsMet now taken
+
+-- All that is still to come is this end: a fault whatever bytes follow, or in a last line that no newline ends, and
+-- another end by the bytes that were taken and the reason that it tells.
+abbrev pub EndsAs : Reading → List ℕ → Option (List ℕ) → ℕ → ZeekEnd → Type 0
+EndsAs old took now taken Done = EndsThere old took now taken Done
+EndsAs old took now taken ReadFault = to_come old took Failed ≡ ended ReadFault
+EndsAs old took now taken TooLong = (to_come old took AtBound ≡ ended TooLong) × (taken ≡ most_bytes)
+EndsAs old took now taken (Fault n column what) = EndsAnyway old took (Fault n column what) ⊎ EndsThere old took now taken (Fault n column what)
+EndsAs old took now taken Memory = ⊤
+
+pub record Closes (old new : Reading) (before now : Option (List ℕ)) (e : ZeekEnd) : Type 0 where
+  pub took : List ℕ
+  pub left : before ≡ prepend_known took now
+  pub count : new.taken ≡ old.taken + length took
+  pub is : EndsAs old took now new.taken e
+  pub stays : new.state ≡ Ended e
+
+abbrev pub Answer : Reading → Reading → Option (List ℕ) → Option (List ℕ) → Result Step ZeekEnd → Type 0
+Answer old new before now (Ok step) = StepsOn old new before now step
+Answer old new before now (Err e) = Closes old new before now e
+
+-- an end, once given, stays; before it each answer is the first of what is still to come
+abbrev pub Follows : State → Reading → Reading → Option (List ℕ) → Option (List ℕ) → Result Step ZeekEnd → Type 0
+Follows (Ended e) old new before now result = (result ≡ Err e) × (new ≡ old) × (now ≡ before)
+Follows (Last told) old new before now result =
+    (result ≡ Err Done) × (new ≡ record { state = Ended Done; held = old.held; taken = old.taken }) × (now ≡ before)
+Follows (Reads told n) old new before now result = Answer old new before now result
+
+-- a failed read is the end exactly where the count of faults rose in this call
+abbrev pub CountsBy : Result Step ZeekEnd → ℕ → ℕ → Type 0
+CountsBy (Err ReadFault) before now = Rose before now
+CountsBy _ before now = now ≡ before
+
+abbrev pub CountsOf : State → Result Step ZeekEnd → ℕ → ℕ → Type 0
+CountsOf (Ended e) result before now = now ≡ before
+CountsOf (Last told) result before now = now ≡ before
+CountsOf (Reads told n) result before now = CountsBy result before now
+
+abbrev pub heading_told : State → Option Heading
+heading_told (Reads told n) = told.heading
+heading_told (Last told) = told.heading
+heading_told (Ended e) = None
+
+-- a head is the last one now, and a row fits the last head's layout
+abbrev pub StepFits : Option Heading → Option Heading → Step → Type 0
+StepFits before now (step.Head layout) = now ≡ Some (heading_of layout)
+StepFits before now (step.Line row) = IsSomeAnd before (λ heading. IsTrue (fits_fields heading.fields row)) × (now ≡ before)

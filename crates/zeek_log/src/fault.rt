@@ -1,4 +1,6 @@
 //! What can be wrong with a log.
+ghost use Rattle.std.specs.Prelude.{◌≡◌};
+
 use thiserror::Error;
 
 /// What is wrong with a log at some place.
@@ -26,4 +28,27 @@ pub enum ZeekFault {
     BadCell,
     #[error("a line of more than 1,048,576 bytes")]
     LineTooLong,
+}
+
+/// A fault in a column, counted from 1, or 0 for the line as a whole.
+#[derive(Clone, Copy, Debug, PartialEq, Eq)]
+pub struct At {
+    pub column: u32,
+    pub what: ZeekFault,
+}
+
+/// Why a line was not taken.
+#[derive(Clone, Copy, Debug, PartialEq, Eq)]
+pub enum LineEnd {
+    /// The line is wrong.
+    Bad(At),
+    /// No memory was left.
+    Memory,
+}
+
+/// A line that is wrong as a whole.
+pub fn bad_line(what: ZeekFault) -> LineEnd
+    ensures { result ≡ LineEnd.Bad (record { column = 0; what = what }) }
+{
+    LineEnd::Bad(At { column: 0, what })
 }

@@ -1,122 +1,181 @@
-//! The head lines of a plain log.
-ghost use Rattle.std.specs.Prelude.{◌≡◌, ◌^◌, ◌≤◌, length, map, IfOk, IfSome, MatchOption, codes, Some};
-ghost use Rattle.std.specs.Option.{option_map, option_and_then, option_copied};
+//! Head lines.
+ghost use Rattle.std.specs.Prelude.{◌≡◌, ◌≤◌, ◌^◌, length, IfOk, IsTrue, map, not};
 ghost use Rattle.vast_value.specs.Headings.{field_of, heading_of};
-ghost use Rattle.zeek_log.specs.Lines.{cells_of};
-ghost use Rattle.zeek_log.specs.Plain.{heading_read, tagged, path_of, field_read, fields_read, checked};
+ghost use Rattle.vast_value.specs.Layouts.{is_empty};
+ghost use Rattle.zeek_log.specs.Answers.{told_of, Answers, Does, LineFits};
+ghost use Rattle.zeek_log.specs.Heads.{separator_of, names_read};
+ghost use Rattle.zeek_log.specs.Lines.{pieces_of};
+ghost use Rattle.zeek_log.specs.Table.{head_line, head_told, named_head, names_told, empty_told, unset_told, path_told, separator_told, set_separator_told, fields_read, types_told};
 
-use crate::cells::{is_plain, kind_of};
-use crate::lines::split_cell;
-use std::alloc::{AllocError, Global};
-use vast_value::{Bytes, Column, Columns, Layout};
+use crate::columns::{layout_of, read_columns};
+use crate::cut::split_head;
+use crate::fault::{LineEnd, ZeekFault, bad_line};
+use crate::fields::read_names;
+use crate::known::Known;
+use crate::opening::opened;
+use crate::step::Step;
+use crate::types::separator_of;
+use std::alloc::Global;
+use vast_value::{Bytes, Layout};
 
-/// The layout of the three head lines behind the first, of at most 2^24 bytes each, if they are of the plain form.
-pub fn read_head(
+/// Takes a head line.
+pub fn head_line(alloc: Global, known: &mut Known, line: &[u8]) -> Result<Option<Step>, LineEnd>
+    requires { length line.now ≤ 2 ^ 24 }
+    ensures does { Does (head_line (told_of known.old) line.now) (told_of known.new) result }
+    ensures fits { LineFits (told_of known.old).heading (told_of known.new).heading result }
+{
+    if line.starts_with(b"#separator ") {
+        let (_, value) = line.split_at(11);
+        return separator_line(alloc, known, value);
+    }
+    let (name, value) = split_head(known.separator, line);
+    named_head(alloc, known, name, value)
+}
+
+fn separator_line(alloc: Global, known: &mut Known, value: &[u8]) -> Result<Option<Step>, LineEnd>
+    ensures does { Does (separator_told (separator_of value.now)) (told_of known.new) result }
+    ensures fits { LineFits (told_of known.old).heading (told_of known.new).heading result }
+{
+    let Some(byte) = separator_of(value) else {
+        return Err(bad_line(ZeekFault::BadSeparator));
+    };
+    match opened(alloc, byte) {
+        Ok(start) => {
+            *known = start;
+            Ok(None)
+        }
+        Err(_) => Err(LineEnd::Memory),
+    }
+}
+
+fn named_head(
     alloc: Global,
-    path: &[u8],
-    names: &[u8],
-    types: &[u8],
-) -> Result<Option<Layout>, AllocError>
-    requires path { length path.now ≤ 2 ^ 24 }
-    requires names { length names.now ≤ 2 ^ 24 }
-    ensures { IfOk result (λ layout. option_map heading_of layout ≡ heading_read path.now names.now types.now) }
+    known: &mut Known,
+    name: &[u8],
+    value: &[u8],
+) -> Result<Option<Step>, LineEnd>
+    requires { length value.now ≤ 2 ^ 24 }
+    ensures does { Does (named_head (told_of known.old) name.now value.now) (told_of known.new) result }
+    ensures fits { LineFits (told_of known.old).heading (told_of known.new).heading result }
 {
-    let Some(path) = read_path(path) else {
-        return Ok(None);
-    };
-    let Some(names) = values(b"#fields", names) else {
-        return Ok(None);
-    };
-    let Some(types) = values(b"#types", types) else {
-        return Ok(None);
-    };
-    let Some(columns) = read_columns(alloc, names, types)? else {
-        return Ok(None);
-    };
-    let path = Bytes::copy(alloc, path)?;
-    Ok(checked_layout(path, columns))
+    if name == b"#set_separator".as_slice() {
+        return set_separator_line(known, value);
+    }
+    if name == b"#empty_field".as_slice() {
+        return empty_line(alloc, known, value);
+    }
+    if name == b"#unset_field".as_slice() {
+        return unset_line(alloc, known, value);
+    }
+    if name == b"#path".as_slice() {
+        return path_line(alloc, known, value);
+    }
+    if name == b"#fields".as_slice() {
+        return fields_line(alloc, known, value);
+    }
+    if name == b"#types".as_slice() {
+        return types_line(alloc, known, value);
+    }
+    Ok(None)
 }
 
-#[tactic(auto, using(crate::proofs::LineLemmas::cells_some))]
-fn read_path(line: &[u8]) -> Option<&[u8]>
-    ensures value { option_copied result ≡ option_and_then path_of (tagged (codes "#path") (cells_of line.now)) }
-    ensures within { IfSome result (λ path. length path.now ≤ length line.now) }
+fn set_separator_line(known: &mut Known, value: &[u8]) -> Result<Option<Step>, LineEnd>
+    ensures does { Does (set_separator_told (told_of known.old) (separator_of value.now)) (told_of known.new) result }
+    ensures fits { LineFits (told_of known.old).heading (told_of known.new).heading result }
 {
-    let Some(values) = values(b"#path", line) else {
-        return None;
+    let Some(byte) = separator_of(value) else {
+        return Err(bad_line(ZeekFault::BadSeparator));
     };
-    let (path, more) = split_cell(values);
-    if more.is_some() {
-        return None;
-    }
-    if !is_plain(path) {
-        return None;
-    }
-    Some(path)
+    known.marks.set_separator = byte;
+    Ok(None)
 }
 
-// What follows the name of a head line and a tab, if the line has this name.
-#[tactic(auto, using(crate::proofs::LineLemmas::cells_some))]
-fn values<'a>(name: &[u8], line: &'a [u8]) -> Option<&'a [u8]>
-    ensures value { option_map cells_of (option_copied result) ≡ tagged name.now (cells_of line.now) }
-    ensures within { IfSome result (λ values. length values.now ≤ length line.now) }
+fn empty_line(alloc: Global, known: &mut Known, value: &[u8]) -> Result<Option<Step>, LineEnd>
+    requires { length value.now ≤ 2 ^ 24 }
+    ensures does { Does (empty_told (told_of known.old) value.now) (told_of known.new) result }
+    ensures fits { LineFits (told_of known.old).heading (told_of known.new).heading result }
 {
-    let (first, rest) = split_cell(line);
-    let Some(values) = rest else {
-        return None;
+    let Ok(text) = Bytes::copy(alloc, value) else {
+        return Err(LineEnd::Memory);
     };
-    if first != name {
-        return None;
-    }
-    Some(values)
+    known.marks.empty = text;
+    Ok(None)
 }
 
-fn read_columns(alloc: Global, names: &[u8], types: &[u8]) -> Result<Option<Columns>, AllocError>
-    requires { length names.now ≤ 2 ^ 24 }
-    ensures { IfOk result (λ columns. option_map (map field_of) columns ≡ fields_read (cells_of names.now) (cells_of types.now)) }
+fn unset_line(alloc: Global, known: &mut Known, value: &[u8]) -> Result<Option<Step>, LineEnd>
+    requires { length value.now ≤ 2 ^ 24 }
+    ensures does { Does (unset_told (told_of known.old) value.now) (told_of known.new) result }
+    ensures fits { LineFits (told_of known.old).heading (told_of known.new).heading result }
 {
-    let mut columns = Columns::new(alloc);
-    let mut names_left = Some(names);
-    let mut types_left = Some(types);
-    while let Some(name) = names_left {
-        let Some(type_name) = types_left else {
-            return Ok(None);
-        };
-        let (name, names_after) = split_cell(name);
-        let (type_name, types_after) = split_cell(type_name);
-        let Some(column) = read_column(alloc, name, type_name)? else {
-            return Ok(None);
-        };
-        columns.push(column)?;
-        names_left = names_after;
-        types_left = types_after;
-    }
-    if types_left.is_some() {
-        return Ok(None);
-    }
-    Ok(Some(columns))
-}
-
-fn read_column(alloc: Global, name: &[u8], type_name: &[u8]) -> Result<Option<Column>, AllocError>
-    requires { length name.now ≤ 2 ^ 24 }
-    ensures { IfOk result (λ column. option_map field_of column ≡ field_read name.now type_name.now) }
-{
-    if !is_plain(name) {
-        return Ok(None);
-    }
-    let Some(kind) = kind_of(type_name) else {
-        return Ok(None);
+    let Ok(text) = Bytes::copy(alloc, value) else {
+        return Err(LineEnd::Memory);
     };
-    let name = Bytes::copy(alloc, name)?;
-    Ok(Some(Column { name, kind }))
+    known.marks.unset = text;
+    Ok(None)
 }
 
-fn checked_layout(path: Bytes, columns: Columns) -> Option<Layout>
-    requires { length path ≤ 2 ^ 24 }
-    ensures { option_map heading_of result ≡ checked (record { path = path; fields = map field_of columns }) }
+fn path_line(alloc: Global, known: &mut Known, value: &[u8]) -> Result<Option<Step>, LineEnd>
+    requires { length value.now ≤ 2 ^ 24 }
+    ensures does { Does (path_told (told_of known.old) value.now) (told_of known.new) result }
+    ensures fits { LineFits (told_of known.old).heading (told_of known.new).heading result }
 {
-    match Layout::new(path, columns) {
-        Ok(layout) => Some(layout),
-        Err(_) => None,
+    let Ok(text) = Bytes::copy(alloc, value) else {
+        return Err(LineEnd::Memory);
+    };
+    known.path = text;
+    Ok(None)
+}
+
+fn fields_line(alloc: Global, known: &mut Known, value: &[u8]) -> Result<Option<Step>, LineEnd>
+    requires { length value.now ≤ 2 ^ 24 }
+    ensures does { Does (names_told (told_of known.old) (names_read (pieces_of known.old.separator value.now))) (told_of known.new) result }
+    ensures fits { LineFits (told_of known.old).heading (told_of known.new).heading result }
+{
+    match read_names(alloc, known.separator, value) {
+        Ok(names) => {
+            known.names = names;
+            known.layout = None;
+            Ok(None)
+        }
+        Err(end) => Err(end),
     }
+}
+
+fn types_line(alloc: Global, known: &mut Known, value: &[u8]) -> Result<Option<Step>, LineEnd>
+    requires { length value.now ≤ 2 ^ 24 }
+    ensures does { Does (types_told (told_of known.old) (pieces_of known.old.separator value.now)) (told_of known.new) result }
+    ensures fits { LineFits (told_of known.old).heading (told_of known.new).heading result }
+{
+    if known.path.as_slice().is_empty() {
+        return Err(bad_line(ZeekFault::NoHead));
+    }
+    match read_layout(alloc, known, value) {
+        Ok(layout) => give_head(alloc, known, layout),
+        Err(end) => Err(end),
+    }
+}
+
+/// The layout of the path and the names with these types.
+fn read_layout(alloc: Global, known: &Known, types: &[u8]) -> Result<Layout, LineEnd>
+    requires path { IsTrue (not (is_empty known.now.path)) }
+    requires short { length types.now ≤ 2 ^ 24 }
+    ensures fields { Answers (λ layout. map field_of layout.columns) result (fields_read known.now.names.items (pieces_of known.now.separator types.now)) }
+    ensures path { IfOk result (λ layout. layout.path ≡ known.now.path) }
+{
+    match read_columns(alloc, known.separator, &known.names, types) {
+        Ok(columns) => layout_of(alloc, known.path.as_slice(), columns),
+        Err(end) => Err(end),
+    }
+}
+
+/// Keeps a layout, and gives it.
+fn give_head(alloc: Global, known: &mut Known, layout: Layout) -> Result<Option<Step>, LineEnd>
+    ensures does { Does (head_told (told_of known.old) (heading_of layout)) (told_of known.new) result }
+    ensures fits { LineFits (told_of known.old).heading (told_of known.new).heading result }
+{
+    let Ok(copy) = layout.duplicate(alloc) else {
+        return Err(LineEnd::Memory);
+    };
+    known.layout = Some(copy);
+    Ok(Some(Step::Head(layout)))
 }

@@ -1,19 +1,26 @@
 //! The reader of Zeek's logs.
 //!
-//! A log is read here in its plain form: text and count columns, tabs, no escapes and nothing unset. Any other input is
-//! answered by one fault before any step.
+//! A log is read line by line from any source, and gives heads, rows and one end. Contracts see what is still to come
+//! of it by the bytes that its source still gives.
 #![tactic(auto)]
 
-mod cells;
+mod block;
+mod columns;
+mod cut;
+mod data;
 mod fault;
+mod fields;
 mod head;
-mod lines;
-mod log;
+mod held;
+mod known;
+mod line;
+mod names;
+mod opening;
 mod reader;
-mod rows;
 mod step;
-mod take;
-mod whole;
+#[cfg(test)]
+mod tests;
+mod types;
 
 pub use fault::ZeekFault;
 pub use reader::ZeekReader;

@@ -1,183 +1,184 @@
-//! The reader, step by step.
-ghost use Rattle.std.specs.Prelude.{◌≡◌, ◌≤◌, ◌^◌, ℕ, true, false, length, is_some, IfOk, IsErrOf};
-ghost use Rattle.vast_io.specs.Causes.{Rose};
-ghost use Rattle.zeek_log.specs.Reader.{Fresh, is_fresh, coming, last_columns, ended, Gives, IsFirst, StepFits};
-ghost use Rattle.zeek_log.specs.State.{Begins, IsBegun, Starts};
-ghost use Rattle.zeek_log.specs.Steps.{steps_of};
+//! The reader of a log.
+ghost use Rattle.std.specs.Prelude.{◌≡◌, ◌<◌, ◌≤◌, ℕ, List, Option, [], true, None, Some, Ok, is_some, IfOk};
+ghost use Rattle.memchr.specs.Find.{IsFirstByte, is_byte};
+ghost use Rattle.zeek_log.specs.Going.{LineAnswer, LineCounts, answer_of, is_reading, lines_left};
+ghost use Rattle.zeek_log.specs.Heads.{opening};
+ghost use Rattle.zeek_log.specs.Reader.{Answer, Follows, CountsBy, CountsOf, IsMet, Reads, StepFits, heading_told};
 
-use crate::fault::ZeekFault;
-use crate::log::read_log;
+use crate::block::{Block, Found};
+use crate::fault::{LineEnd, ZeekFault};
+use crate::known::Known;
+use crate::line::take_line;
+use crate::opening::opened;
 use crate::step::{Step, ZeekEnd};
-use crate::take::{Taken, take_all};
-use crate::whole::Log;
 use std::alloc::{AllocError, Global};
 use std::marker::Model;
-use std::mem;
 use vast_io::Source;
 
-/// A reader of one log. It is passed the log's source at each call.
-#[derive(Drop)]
-pub struct ZeekReader {
-    state: State,
-}
-
-#[derive(Drop)]
-enum State {
-    /// Nothing was read.
-    Fresh,
-    /// The head of the log comes next.
-    Head(Log),
-    /// The rows of the log come next, or the end.
-    Rows(Log),
+/// How far a reader is.
+#[derive(Clone, Copy, Debug, PartialEq, Eq)]
+pub enum Phase {
+    /// Lines come.
+    Reads,
+    /// The last line, which no newline ended, gave a step.
+    Last,
+    /// Nothing more comes.
     Ended(ZeekEnd),
 }
 
+/// Reads a log from any source, line by line.
+///
+/// It takes at most 2^36 bytes, and keeps at most one line and a block of them. Contracts see what the lines so far told
+/// with the number of the next line, the bytes that it keeps, and how many it took.
+#[derive(Drop)]
+pub struct ZeekReader {
+    phase: Phase,
+    known: Known,
+    line: u64,
+    block: Block,
+}
+
 impl Model for ZeekReader {
+    ghost use Rattle.std.specs.Prelude.{◌≤◌, ◌+◌, length};
+    ghost use Rattle.zeek_log.specs.Answers.{told_of};
+    ghost use Rattle.zeek_log.specs.Going.{state_of};
     ghost use Rattle.zeek_log.specs.Reader.{Reading};
-    ghost use Rattle.zeek_log.specs.State.{reading};
+    ghost use Rattle.zeek_log.specs.Taking.{most_bytes};
 
     ghost Value = { Reading };
 
-    ghost view = { λ reader. reading reader.state };
+    ghost view = { λ r. record { state = state_of r.phase (told_of r.known) r.line; held = r.block.bytes; taken = r.block.taken } };
+
+    ghost invariant = { λ r. (r.line + length r.block.bytes ≤ r.block.taken + 1) × (r.block.taken ≤ most_bytes) };
 }
 
 impl ZeekReader {
     /// A reader that has read nothing.
-    pub fn new(_alloc: Global) -> Result<Self, AllocError>
-        ensures { IfOk result (λ reader. reader ≡ Fresh) }
+    pub fn new(alloc: Global) -> Result<Self, AllocError>
+        ensures { IfOk result (λ reader. reader ≡ record { state = Reads opening 1; held = []; taken = 0 }) }
     {
+        let known = opened(alloc, b'\t')?;
+        let block = Block::new(alloc)?;
         Ok(ZeekReader {
-            state: State::Fresh,
+            phase: Phase::Reads,
+            known,
+            line: 1,
+            block,
         })
     }
 
-    /// The next step of the log, or its end. The first call takes the whole source.
+    /// The next step of the log, or why there is none.
     ///
-    /// `ReadFault` comes only where the source's count of faults rose, and `TooLong` where 2^24 bytes were taken.
+    /// A fault comes at the first line with one, in the order of the table's checks. `ReadFault` comes exactly where the
+    /// source's count of faults rose, and `TooLong` where 2^36 bytes were taken. After any end every later call gives
+    /// the same.
     pub fn next<S: Source>(&mut self, alloc: Global, source: &mut S) -> Result<Step, ZeekEnd>
-        ensures first { is_fresh self.old ≡ true → IsFirst (S.left source.old) (S.left source.new) (S.faults source.old) (S.faults source.new) self.new result }
-        ensures next { is_fresh self.old ≡ false → (Gives (coming self.old (ended ZeekEnd.Done)) self.new result × (S.left source.new ≡ S.left source.old) × (S.faults source.new ≡ S.faults source.old)) }
-        ensures started { is_fresh self.new ≡ false }
-        ensures fits { IfOk result (λ step. StepFits (last_columns self.old) (last_columns self.new) step) }
-        ensures failed { is_fresh self.old ≡ true → IsErrOf result ZeekEnd.ReadFault → Rose (S.faults source.old) (S.faults source.new) }
-        ensures ahead { is_fresh self.old ≡ true → (coming self.new (ended ZeekEnd.Done)).end ≡ ZeekEnd.ReadFault → Rose (S.faults source.old) (S.faults source.new) }
+        ensures next { Follows self.old.state self.old self.new (S.left source.old) (S.left source.new) result }
+        ensures counts { CountsOf self.old.state result (S.faults source.old) (S.faults source.new) }
+        ensures fits { IfOk result (λ step. StepFits (heading_told self.old.state) (heading_told self.new.state) step) }
         ensures tells { is_some (S.left source.new) ≡ is_some (S.left source.old) }
-        ensures later { S.faults source.old ≤ S.faults source.new }
     {
-        if self.is_fresh() {
-            self.state = begin(alloc, source);
-        }
-        self.state.give(alloc)
-    }
-
-    fn is_fresh(&self) -> bool
-        ensures { result ≡ is_fresh self.now }
-    {
-        matches!(&self.state, State::Fresh)
-    }
-}
-
-impl State {
-    ghost use Rattle.zeek_log.specs.State.{reading};
-
-    // The next member of what is to come.
-    fn give(&mut self, alloc: Global) -> Result<Step, ZeekEnd>
-        requires { is_fresh (reading self.old) ≡ false }
-        ensures gives { Gives (coming (reading self.old) (ended ZeekEnd.Done)) (reading self.new) result }
-        ensures started { is_fresh (reading self.new) ≡ false }
-        ensures fits { IfOk result (λ step. StepFits (last_columns (reading self.old)) (last_columns (reading self.new)) step) }
-    {
-        match mem::replace(self, State::Ended(ZeekEnd::Memory)) {
-            State::Fresh => Err(ZeekEnd::Memory),
-            State::Head(log) => {
-                let layout = match log.layout.duplicate(alloc) {
-                    Ok(layout) => layout,
-                    Err(_) => return Err(ZeekEnd::Memory),
-                };
-                *self = State::Rows(log);
-                Ok(Step::Head(layout))
-            }
-            State::Rows(log) => self.give_row(log),
-            State::Ended(end) => {
-                *self = State::Ended(end);
-                Err(end)
-            }
-        }
-    }
-
-    fn give_row(&mut self, log: Log) -> Result<Step, ZeekEnd>
-        ensures gives { Gives (coming (reading (State.Rows log)) (ended ZeekEnd.Done)) (reading self.new) result }
-        ensures started { is_fresh (reading self.new) ≡ false }
-        ensures fits { IfOk result (λ step. StepFits (last_columns (reading (State.Rows log))) (last_columns (reading self.new)) step) }
-    {
-        let mut log = log;
-        match log.next_row() {
-            Some(row) => {
-                *self = State::Rows(log);
-                Ok(Step::Line(row))
-            }
-            None => {
-                *self = State::Ended(ZeekEnd::Done);
+        match self.phase {
+            Phase::Ended(end) => Err(end),
+            Phase::Last => {
+                self.phase = Phase::Ended(ZeekEnd::Done);
                 Err(ZeekEnd::Done)
             }
+            Phase::Reads => self.go_on(alloc, source),
+        }
+    }
+
+    /// Takes lines until one gives a step or nothing more comes.
+    fn go_on<S: Source>(&mut self, alloc: Global, source: &mut S) -> Result<Step, ZeekEnd>
+        requires { is_reading self.old.state ≡ true }
+        ensures next { Answer self.old self.new (S.left source.old) (S.left source.new) result }
+        ensures counts { CountsBy result (S.faults source.old) (S.faults source.new) }
+        ensures fits { IfOk result (λ step. StepFits (heading_told self.old.state) (heading_told self.new.state) step) }
+    {
+        loop {
+            match self.take_next(alloc, source) {
+                Ok(Some(step)) => return Ok(step),
+                Ok(None) => {}
+                Err(end) => {
+                    self.phase = Phase::Ended(end);
+                    return Err(end);
+                }
+            }
+        }
+    }
+
+    /// Takes the next line.
+    fn take_next<S: Source>(
+        &mut self,
+        alloc: Global,
+        source: &mut S,
+    ) -> Result<Option<Step>, ZeekEnd>
+        requires { is_reading self.old.state ≡ true }
+        ensures next { LineAnswer self.old self.new (S.left source.old) (S.left source.new) result }
+        ensures counts { LineCounts result (S.faults source.old) (S.faults source.new) }
+        ensures less { result ≡ Ok None → lines_left self.new.state < lines_left self.old.state }
+    {
+        match self.block.find_line(source) {
+            Found::Line(count) => self.take_ended(alloc, count),
+            Found::Long => Err(ZeekEnd::Fault {
+                line: self.line,
+                column: 0,
+                what: ZeekFault::LineTooLong,
+            }),
+            Found::AtEnd => self.take_last(alloc),
+            Found::Failed => Err(ZeekEnd::ReadFault),
+            Found::AtBound => Err(ZeekEnd::TooLong),
+            Found::Memory => Err(ZeekEnd::Memory),
+        }
+    }
+
+    /// Takes a line of so many bytes, and its newline.
+    fn take_ended(&mut self, alloc: Global, count: usize) -> Result<Option<Step>, ZeekEnd>
+        requires reads { is_reading self.old.state ≡ true }
+        requires found { IsFirstByte (is_byte 10) self.old.held (Some count) }
+        ensures next { (now : Option (List ℕ)) → LineAnswer self.old self.new now now result }
+        ensures counts { (n : ℕ) → LineCounts result n n }
+        ensures less { result ≡ Ok None → lines_left self.new.state < lines_left self.old.state }
+    {
+        let (line, _) = self.block.as_slice().split_at(count);
+        let outcome = take_line(alloc, &mut self.known, line);
+        self.block.skip(count + 1);
+        let number = self.line;
+        self.line += 1;
+        answer_of(number, outcome)
+    }
+
+    /// Takes what is held as the last line.
+    fn take_last(&mut self, alloc: Global) -> Result<Option<Step>, ZeekEnd>
+        requires reads { is_reading self.old.state ≡ true }
+        requires found { IsFirstByte (is_byte 10) self.old.held None }
+        ensures next { (now : Option (List ℕ)) → IsMet now self.old.taken → LineAnswer self.old self.new now now result }
+        ensures counts { (n : ℕ) → LineCounts result n n }
+        ensures some { result ≡ Ok None → ⊥ }
+    {
+        let outcome = take_line(alloc, &mut self.known, self.block.as_slice());
+        match answer_of(self.line, outcome) {
+            Ok(Some(step)) => {
+                self.phase = Phase::Last;
+                Ok(Some(step))
+            }
+            Ok(None) => Err(ZeekEnd::Done),
+            Err(end) => Err(end),
         }
     }
 }
 
-// Takes the whole source, and reads it.
-fn begin<S: Source>(alloc: Global, source: &mut S) -> State
-    ensures begins { Begins (S.left source.old) (S.left source.new) (S.faults source.old) (S.faults source.new) result }
-    ensures begun { IsBegun result (S.faults source.old) (S.faults source.new) }
-    ensures tells { is_some (S.left source.new) ≡ is_some (S.left source.old) }
-    ensures later { S.faults source.old ≤ S.faults source.new }
+/// A line's outcome as an answer, where the line has this number.
+fn answer_of(number: u64, outcome: Result<Option<Step>, LineEnd>) -> Result<Option<Step>, ZeekEnd>
+    ensures { result ≡ answer_of number outcome }
 {
-    match take_all(alloc, source) {
-        Ok(Taken::Whole(bytes)) => read(alloc, bytes.as_slice()),
-        Ok(Taken::Failed) => State::Ended(ZeekEnd::ReadFault),
-        Ok(Taken::TooLong) => State::Ended(ZeekEnd::TooLong),
-        Err(_) => State::Ended(ZeekEnd::Memory),
-    }
-}
-
-fn read(alloc: Global, bytes: &[u8]) -> State
-    requires { length bytes.now ≤ 2 ^ 24 }
-    ensures starts { Starts result (steps_of bytes.now) }
-    ensures begun { (faults : ℕ) (faults_now : ℕ) → IsBegun result faults faults_now }
-{
-    match read_log(alloc, bytes) {
-        Ok(Some(log)) => State::Head(log),
-        Ok(None) => State::Ended(ZeekEnd::Fault {
-            line: 1,
-            column: 0,
-            what: ZeekFault::NoHead,
+    match outcome {
+        Ok(step) => Ok(step),
+        Err(LineEnd::Bad(at)) => Err(ZeekEnd::Fault {
+            line: number,
+            column: at.column,
+            what: at.what,
         }),
-        Err(_) => State::Ended(ZeekEnd::Memory),
-    }
-}
-
-#[cfg(test)]
-mod tests {
-    use super::*;
-    use std::test::Fail;
-    use vast_io::MemSource;
-    use vast_value::Bytes;
-
-    #[test]
-    fn a_log_in_pieces_is_a_head_a_row_and_a_lasting_end(rt: HostRuntime) -> Result<(), Fail> {
-        let alloc = rt.alloc();
-        let text = b"#separator \\x09\n#path\td\n#fields\tname\tn\n#types\tstring\tcount\nann\t3";
-        let mut source = MemSource::new(Bytes::copy(alloc, text)?, 7, Vec::new(alloc));
-        let mut reader = ZeekReader::new(alloc)?;
-        match reader.next(alloc, &mut source) {
-            Ok(Step::Head(layout)) => assert_eq!(rt; layout.columns().len(), 2),
-            _ => return Err("no head".into()),
-        }
-        match reader.next(alloc, &mut source) {
-            Ok(Step::Line(row)) => assert_eq!(rt; row.as_slice().len(), 2),
-            _ => return Err("no row".into()),
-        }
-        assert_eq!(rt; reader.next(alloc, &mut source).err(), Some(ZeekEnd::Done));
-        assert_eq!(rt; reader.next(alloc, &mut source).err(), Some(ZeekEnd::Done));
-        Ok(())
+        Err(LineEnd::Memory) => Err(ZeekEnd::Memory),
     }
 }
