@@ -1,5 +1,5 @@
 //! What a command tells of a log.
-ghost use Rattle.std.specs.Prelude.{◌≡◌, ℕ, ◌+◌, ◌<◌, ◌≤◌, ◌^◌, ◌++◌, List, Option, None, is_some, OnOk, IsErrOf};
+ghost use Rattle.std.specs.Prelude.{◌≡◌, ◌≢◌, ℕ, ◌+◌, ◌<◌, ◌≤◌, ◌^◌, ◌++◌, List, Option, None, is_some, OnOk, IsErrOf};
 ghost use Rattle.vast_io.specs.Causes.{Rose};
 ghost use Rattle.vast_io.specs.Told.{WritesPart};
 ghost use Rattle.vast_value.specs.Headings.{Heading};
@@ -124,8 +124,27 @@ fn write_step<W: Report, K: Sink>(
     }
 }
 
-// Tells the end, writes all that is gathered, and answers the status of a command that ends so.
+// Tells the end, writes all that is gathered, and answers the status of a command that ends so. Where memory was wanting
+// nothing more is written.
 fn write_end<W: Report, K: Sink>(
+    report: &W,
+    end: ZeekEnd,
+    buffer: &mut Buffer,
+    sink: &mut K,
+) -> Status
+    ensures ended { end ≢ ZeekEnd.Memory → TellsText result end (buffer.old.text ++ W.behind report.now (ended end)) (K.written sink.old) (K.written sink.new) }
+    ensures memory { end ≡ ZeekEnd.Memory → (result ≡ Status.Memory) × (K.written sink.new ≡ K.written sink.old) }
+    ensures known { IsOfReport result }
+    ensures read { result ≡ Status.ReadFault → end ≡ ZeekEnd.ReadFault }
+    ensures write { result ≡ Status.WriteFault → Rose (K.faults sink.old) (K.faults sink.new) }
+{
+    match end {
+        ZeekEnd::Memory => Status::Memory,
+        _ => write_last(report, end, buffer, sink),
+    }
+}
+
+fn write_last<W: Report, K: Sink>(
     report: &W,
     end: ZeekEnd,
     buffer: &mut Buffer,
