@@ -136,7 +136,7 @@ pub record Does {S : Type 0} (left_of : S → Option (List ℕ)) (faults_of : S 
     (opens opens_now writes writes_now : ℕ) (before now : Option (List ℕ)) (status : Status) (rest : Option S) : Type 0 where
   pub usage : Exactly status Usage (command ≡ None)
   pub refused : Exactly status QueryRefused (IsRefused command)
-  pub open : status ≡ OpenFault → Rose opens opens_now
+  pub opening : status ≡ OpenFault → Rose opens opens_now
   pub write : status ≡ WriteFault → Rose writes writes_now
   pub read : status ≡ ReadFault → IsSomeAnd rest (λ source. Rose 0 (faults_of source))
   pub opened : WasOpened status (IsSome rest)
