@@ -48,7 +48,7 @@ source_failed bytes took rest split = ap (λ (t : List ℕ). steps_of t Failed) 
 at_bound : (bytes took : List ℕ) (b : Bool) → nat_le most_bytes (length took) ≡ b → b ≡ true → taken_steps bytes took false ≡ steps_of took AtBound
 at_bound bytes took b is at = rw (is ∙ at) refl
 
-below_bound : (bytes took : List ℕ) (b : Bool) → nat_le most_bytes (length took) ≡ b → b ≡ false → taken_steps bytes took false ≡ steps_of bytes AllThere
+pub below_bound : (bytes took : List ℕ) (b : Bool) → nat_le most_bytes (length took) ≡ b → b ≡ false → taken_steps bytes took false ≡ steps_of bytes AllThere
 below_bound bytes took b is off = rw (is ∙ off) refl
 
 source_full : (bytes took rest : List ℕ) → bytes ≡ took ++ rest → nat_le most_bytes (length took) ≡ true → steps_of_source bytes rest false ≡ steps_of took AtBound
@@ -60,7 +60,7 @@ source_there bytes took rest split few =
     ap (λ (t : List ℕ). taken_steps bytes t false) (taken_is bytes took rest split) ∙ below_bound bytes took false few refl
     ∙ ap (λ (t : List ℕ). steps_of t AllThere) split
 
-below_most : (n : ℕ) → n < most_bytes → nat_le most_bytes n ≡ false
+pub below_most : (n : ℕ) → n < most_bytes → nat_le most_bytes n ≡ false
 below_most n few = grind (arith, nat_tests, few)
 
 most_is : (n : ℕ) → n ≡ most_bytes → nat_le most_bytes n ≡ true

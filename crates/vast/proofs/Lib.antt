@@ -1,1 +1,3 @@
+mod CauseLemmas
 pub mod GoingLemmas
+pub mod ReportLemmas

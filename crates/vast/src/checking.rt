@@ -28,6 +28,7 @@ impl Report for CheckReport {
 
     ghost rows = { λ report. report.rows };
 
+    #[tactic(auto, using(crate::proofs::ReportLemmas::check_head, crate::proofs::ReportLemmas::check_line))]
     fn take(&mut self, step: Step, out: &mut Bytes) -> Result<(), AllocError> {
         match step {
             Step::Head(next) => {
@@ -43,6 +44,7 @@ impl Report for CheckReport {
         }
     }
 
+    #[tactic(auto, using(crate::proofs::ReportLemmas::check_ends))]
     fn end(&self, end: ZeekEnd, out: &mut Bytes) -> Result<(), AllocError> {
         push_counted(&self.layout, self.rows, out)?;
         push_check_end(end, out)

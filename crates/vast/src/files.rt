@@ -10,11 +10,10 @@ use crate::checking::CheckReport;
 use crate::report::{Report, write_report};
 use crate::scanning::ScanReport;
 use crate::status::Status;
-use crate::texts::{push_open, push_refused};
+use crate::texts::{open_line, refused_line};
 use query_parse::{ParseEnd, QueryFault, parse};
 use std::alloc::Global;
 use vast_io::{OpenEnd, Opener, Sink, write_all};
-use vast_value::Bytes;
 
 /// How a command ended.
 #[derive(Drop)]
@@ -50,7 +49,7 @@ pub fn scan_file<O: Opener, K: Sink>(
             let report = ScanReport { expr, layout: None };
             report_file(alloc, file, report, opener, sink)
         }
-        Err(ParseEnd::Fault(fault)) => refuse_query(alloc, fault, sink),
+        Err(ParseEnd::Fault(fault)) => unopened(refuse_query(alloc, fault, sink)),
         Err(ParseEnd::Memory) => unopened(Status::Memory),
     }
 }
@@ -71,16 +70,17 @@ pub fn check_file<O: Opener, K: Sink>(
     report_file(alloc, file, report, opener, sink)
 }
 
-fn refuse_query<O: Opener, K: Sink>(alloc: Global, fault: QueryFault, sink: &mut K) -> Ended<O>
-    ensures rest { result.rest ≡ None }
-    ensures refused { Refuses result.status fault (K.faults sink.old) (K.faults sink.new) (K.written sink.old) (K.written sink.new) }
+// Writes the line of a query that is refused.
+fn refuse_query<K: Sink>(alloc: Global, fault: QueryFault, sink: &mut K) -> Status
+    ensures { Refuses result fault (K.faults sink.old) (K.faults sink.new) (K.written sink.old) (K.written sink.new) }
 {
-    let mut line = Bytes::new(alloc);
-    if push_refused(fault, &mut line).is_err() {
-        return unopened(Status::Memory);
+    match refused_line(alloc, fault) {
+        Ok(line) => {
+            say(sink, line.as_slice());
+            Status::QueryRefused
+        }
+        Err(_) => Status::Memory,
     }
-    say(sink, line.as_slice());
-    unopened(Status::QueryRefused)
 }
 
 // Opens a file, and writes what is told of it.
@@ -101,10 +101,9 @@ fn report_file<W: Report + Drop, O: Opener, K: Sink>(
     ensures told { IfSome result.rest (λ source. TellsOf result.status (O.bytes_of opener.old file.now) (O.Src.left source) 0 (O.Src.faults source) (W.behind report) (K.written sink.old) (K.written sink.new)) }
     ensures early { IfNone result.rest (SaysUnopened file.now result.status (K.faults sink.old) (K.faults sink.new) (K.written sink.old) (K.written sink.new)) }
 {
-    let mut line = Bytes::new(alloc);
-    if push_open(file, &mut line).is_err() {
+    let Ok(line) = open_line(alloc, file) else {
         return unopened(Status::Memory);
-    }
+    };
     match opener.open_one(alloc, file) {
         Ok(source) => {
             let mut report = report;

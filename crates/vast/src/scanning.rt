@@ -30,6 +30,7 @@ impl Report for ScanReport {
 
     ghost rows = { λ report. 0 };
 
+    #[tactic(auto, using(crate::proofs::ReportLemmas::scan_head, crate::proofs::ReportLemmas::scan_line))]
     fn take(&mut self, step: Step, out: &mut Bytes) -> Result<(), AllocError> {
         match step {
             Step::Head(next) => {
@@ -46,6 +47,7 @@ impl Report for ScanReport {
 }
 
 // Puts the line of a row behind what `out` holds, if it matches.
+#[tactic(auto, using(crate::proofs::ReportLemmas::fits_layout))]
 fn push_match(
     expr: &Expr,
     layout: &Option<Layout>,
@@ -81,7 +83,10 @@ fn push_scan_end(end: ZeekEnd, out: &mut Bytes) -> Result<(), AllocError>
 {
     match end {
         ZeekEnd::Done => Ok(()),
-        other => push_end_line(other, out),
+        ZeekEnd::Fault { .. } => push_end_line(end, out),
+        ZeekEnd::ReadFault => push_end_line(end, out),
+        ZeekEnd::TooLong => push_end_line(end, out),
+        ZeekEnd::Memory => push_end_line(end, out),
     }
 }
 

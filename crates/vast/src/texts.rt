@@ -1,5 +1,5 @@
 //! The texts of rows, layouts and ends.
-ghost use Rattle.std.specs.Prelude.{◌≡◌, ◌++◌, ◌∷◌, codes, OnOk};
+ghost use Rattle.std.specs.Prelude.{◌≡◌, ◌++◌, ◌∷◌, codes, OnOk, IfOk};
 ghost use Rattle.std.specs.Fmt.{decimal};
 ghost use Rattle.std.specs.List.{flat_map};
 ghost use Rattle.value_text.specs.Writing.{cell_text};
@@ -8,7 +8,7 @@ ghost use Rattle.vast.specs.Texts.{row_text, line, fault_name, fault_text, end_t
 
 use itoa::Buffer as Digits;
 use query_parse::{QueryFault, QueryWhat};
-use std::alloc::AllocError;
+use std::alloc::{AllocError, Global};
 use value_text::{write_cell, write_escaped};
 use vast_value::{Bytes, Cell, Layout, Row};
 use zeek_log::{ZeekEnd, ZeekFault};
@@ -100,24 +100,28 @@ fn fault_name(what: ZeekFault) -> &'static [u8]
     }
 }
 
-/// Puts the line of a name that could not be opened behind what `out` holds, by the plain escape.
-pub fn push_open(name: &str, out: &mut Bytes) -> Result<(), AllocError>
-    ensures { OnOk result (out.new ≡ out.old ++ open_line name.now) }
+/// The line of a name that could not be opened, by the plain escape.
+pub fn open_line(alloc: Global, name: &str) -> Result<Bytes, AllocError>
+    ensures { IfOk result (λ text. text ≡ open_line name.now) }
 {
-    out.append(b"open ")?;
-    write_escaped(name.as_bytes(), out)?;
-    out.push(b'\n')
+    let mut text = Bytes::new(alloc);
+    text.append(b"open ")?;
+    write_escaped(name.as_bytes(), &mut text)?;
+    text.push(b'\n')?;
+    Ok(text)
 }
 
-/// Puts the line of a query that is refused behind what `out` holds.
-pub fn push_refused(fault: QueryFault, out: &mut Bytes) -> Result<(), AllocError>
-    ensures { OnOk result (out.new ≡ out.old ++ refused_line fault) }
+/// The line of a query that is refused.
+pub fn refused_line(alloc: Global, fault: QueryFault) -> Result<Bytes, AllocError>
+    ensures { IfOk result (λ text. text ≡ refused_line fault) }
 {
-    out.append(b"query p1 at ")?;
-    push_number(u64::from(fault.at), out)?;
-    out.push(b' ')?;
-    out.append(query_fault_name(fault.what))?;
-    out.push(b'\n')
+    let mut text = Bytes::new(alloc);
+    text.append(b"query p1 at ")?;
+    push_number(u64::from(fault.at), &mut text)?;
+    text.push(b' ')?;
+    text.append(query_fault_name(fault.what))?;
+    text.push(b'\n')?;
+    Ok(text)
 }
 
 fn query_fault_name(what: QueryWhat) -> &'static [u8]
