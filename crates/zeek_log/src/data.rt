@@ -17,7 +17,7 @@ use vast_value::{Column, Row};
 
 /// The row of a data line.
 pub fn data_line(alloc: Global, known: &Known, line: &[u8]) -> Result<Option<Step>, LineEnd>
-    requires { length line.now ≤ 2 ^ 24 }
+    requires { length line.now ≤ 1048576 }
     ensures does { Does (data_line (told_of known.now) line.now) (told_of known.now) result }
     ensures fits { LineFits (told_of known.now).heading (told_of known.now).heading result }
 {
@@ -54,7 +54,7 @@ fn read_row(
     columns: &[Column],
     line: &[u8],
 ) -> Result<Row, LineEnd>
-    requires { length line.now ≤ 2 ^ 24 }
+    requires { length line.now ≤ 1048576 }
     ensures value { Answers (λ row. row) result (row_read marks.now (map field_of columns.now) (pieces_of separator line.now)) }
     ensures fits { IfOk result (λ row. IsTrue (fits_columns columns.now row)) }
 {

@@ -60,6 +60,9 @@ impl Held {
     fn close_up(&mut self)
         ensures { self.new ≡ self.old }
     {
+        if self.at == 0 {
+            return;
+        }
         let count = self.bytes.len() - self.at;
         self.bytes.as_mut_slice().copy_within(self.at.., 0);
         self.bytes.truncate(count);

@@ -16,7 +16,7 @@ const LOG: &[u8] =
 struct Told {
     heads: u32,
     rows: u32,
-    cells: u32,
+    cells: u64,
     end: ZeekEnd,
 }
 
@@ -35,10 +35,10 @@ fn read_all(alloc: Global, bytes: &[u8], piece: u32, fails: Vec<u64>) -> Result<
     };
     for _ in 0..9u32 {
         match reader.next(alloc, &mut source) {
-            Ok(Step::Head(_)) => told.heads = told.heads.wrapping_add(1),
+            Ok(Step::Head(_layout)) => told.heads = told.heads.wrapping_add(1),
             Ok(Step::Line(row)) => {
                 told.rows = told.rows.wrapping_add(1);
-                told.cells = told.cells.wrapping_add(row.as_slice().len() as u32);
+                told.cells = told.cells.wrapping_add(row.as_slice().len() as u64);
             }
             Err(end) => told.end = end,
         }
@@ -62,6 +62,10 @@ fn a_log_in_pieces_of_any_size_gives_the_same(rt: HostRuntime) -> Result<(), Fai
         let told = read_all(rt.alloc(), LOG, piece, Vec::new(rt.alloc()))?;
         assert_eq!(rt; told, want);
     }
+    let bars = b"#separator \\x7C\n#path|d\n#fields|a|b\n#types|count|set[addr]\n-|1.2.3.4,::1\n";
+    let told = read_all(rt.alloc(), bars, 1000, Vec::new(rt.alloc()))?;
+    assert_eq!(rt; (told.heads, told.rows, told.cells), (1, 1, 2));
+    assert_eq!(rt; told.end, ZeekEnd::Done);
     Ok(())
 }
 

@@ -1,4 +1,4 @@
-use Rattle.std.proofs.Common.{◌≡◌, ◌≤◌, ◌^◌, ℕ, ◌+◌, List, ◌∷◌, Option, Bor, drop, length, map, ap, ◌∙◌, sym, arith}
+use Rattle.std.proofs.Common.{◌≡◌, ◌<◌, ◌^◌, ℕ, ◌+◌, List, ◌∷◌, Option, Bor, drop, length, map, ap, ◌∙◌, sym, arith}
 use Rattle.std.specs.Option.{option_copied}
 use Rattle.std.proofs.lemmas.Bool.{and_from}
 use Rattle.vast_value.specs.declared.cell.Cell.{Cell}
@@ -24,7 +24,7 @@ loop-at-preserved c =
     let cut : left ≡ raw ∷ more = ap (λ (r : Option (Bor (List ℕ))). pieces_left s (option_copied r)) c.in-Some.is ∙ c.split_piece.ensures.pieces in
     let long : length_left (option_copied c.loop-at.rest) ≡ length c.in-Some.text.now + 1 =
     ap (λ (r : Option (Bor (List ℕ))). length_left (option_copied r)) c.in-Some.is in
-    let short : length raw ≤ 2 ^ 24 = omega (arith, c.split_piece.ensures.within, long, c.loop-at.invariant.within) in
+    let short : length raw < 2 ^ 24 = omega (arith, c.split_piece.ensures.within, long, c.loop-at.invariant.within) in
     record {
       read = row_step c.args.marks.now (cells_read c.args.marks.now 1 (map field_of columns) (pieces_of s c.args.line.now)) (at + 1) c.loop-at.row c.push.new.self
           (drop at columns) (drop (at + 1) columns) column left more raw cell

@@ -1,4 +1,4 @@
-use Rattle.std.proofs.Common.{◌≡◌, ◌≤◌, ◌^◌, ◌+◌, drop, take, length, map, true}
+use Rattle.std.proofs.Common.{◌≡◌, ◌≤◌, ◌+◌, drop, take, length, map, true}
 use Rattle.std.specs.Option.{option_copied}
 use Rattle.vast_value.specs.Fit.{fits_columns}
 use Rattle.vast_value.specs.Headings.{field_of}
@@ -13,6 +13,6 @@ invariant-loop-at l = record {
   read : cells_read l.marks 1 (map field_of l.columns) (pieces_of l.separator l.line)
       ≡ ahead l.row (cells_read l.marks (l.at + 1) (map field_of (drop l.at l.columns)) (pieces_left l.separator (option_copied l.rest)));
   count : l.at + length (pieces_left l.separator (option_copied l.rest)) ≡ length (pieces_of l.separator l.line);
-  within : l.at + length_left (option_copied l.rest) ≤ 2 ^ 24 + 1;
+  within : l.at + length_left (option_copied l.rest) ≤ 1048577;
   fits : fits_columns (take l.at l.columns) l.row ≡ true;
 }
