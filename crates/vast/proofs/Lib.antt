@@ -1,2 +1,4 @@
+pub mod CauseLemmas
+pub mod GoingLemmas
+pub mod ReportLemmas
 mod Vectors
-pub mod ScanLemmas

@@ -1,5 +1,5 @@
 pub mod Causes
-pub mod Queries
-pub mod Scanning
+pub mod Reports
 pub mod Texts
 pub mod Words
+pub mod Writing

@@ -1,19 +1,52 @@
 -- The texts that the commands write.
-use Rattle.std.specs.Prelude.{ℕ, ◌+◌, ◌/◌, ◌%◌, ◌||◌, ◌==◌, if◌then◌else◌, nat_lt, nat_le, List, [], ◌∷◌, ◌++◌, codes}
+use Rattle.std.specs.Prelude.{ℕ, ◌+◌, List, [], ◌∷◌, ◌++◌, length, codes}
 use Rattle.std.specs.Fmt.{decimal}
 use Rattle.std.specs.List.{filter, flat_map}
-use Rattle.vast_value.specs.declared.value.Value.{Value}
-use Rattle.vast_value.specs.declared.value.Value.TheVariants as value
+use Rattle.value_text.specs.Writing.{cell_text, escaped_text}
 use Rattle.vast_value.specs.declared.cell.Cell.{Cell}
-use Rattle.vast_value.specs.declared.cell.Cell.TheVariants as cell
 use Rattle.vast_value.specs.Headings.{Heading}
 use Rattle.query_meaning.specs.declared.expr.Expr.{Expr}
 use Rattle.query_meaning.specs.Meaning.{holds}
+use Rattle.query_parse.specs.declared.fault.QueryFault.{QueryFault}
+use Rattle.query_parse.specs.declared.fault.QueryWhat.{QueryWhat}
+use Rattle.query_parse.specs.declared.fault.QueryWhat.TheVariants as query
 use Rattle.zeek_log.specs.declared.step.ZeekEnd.{ZeekEnd}
 use Rattle.zeek_log.specs.declared.step.ZeekEnd.TheVariants.{Done, Fault, ReadFault, TooLong, Memory}
 use Rattle.zeek_log.specs.declared.fault.ZeekFault.{ZeekFault}
 use Rattle.zeek_log.specs.declared.fault.ZeekFault.TheVariants as fault
-use Rattle.zeek_log.specs.Steps.{Steps, LogStep, Head, Line}
+use Rattle.zeek_log.specs.Steps.{Steps}
+use Rattle.zeek_log.specs.Table.{LogStep, Head, Line}
+
+abbrev pub line : List ℕ → List ℕ
+line text = text ++ 10 ∷ []
+
+-- Ends
+
+abbrev pub fault_name : ZeekFault → List ℕ
+fault_name fault.NoHead = codes "NoHead"
+fault_name fault.BadSeparator = codes "BadSeparator"
+fault_name fault.FieldsTypes = codes "FieldsTypes"
+fault_name fault.TooManyColumns = codes "TooManyColumns"
+fault_name fault.EmptyName = codes "EmptyName"
+fault_name fault.SameName = codes "SameName"
+fault_name fault.UnknownKind = codes "UnknownKind"
+fault_name fault.Floating = codes "Floating"
+fault_name fault.CellCount = codes "CellCount"
+fault_name fault.BadCell = codes "BadCell"
+fault_name fault.LineTooLong = codes "LineTooLong"
+
+abbrev pub fault_text : ℕ → ℕ → ZeekFault → List ℕ
+fault_text l c what = codes "fault line " ++ (decimal l ++ (codes " column " ++ (decimal c ++ 32 ∷ fault_name what)))
+
+-- how a log ended
+abbrev pub end_text : ZeekEnd → List ℕ
+end_text Done = codes "done"
+end_text (Fault l c what) = fault_text l c what
+end_text ReadFault = codes "read fault"
+end_text TooLong = codes "too long"
+end_text Memory = []
+
+-- Rows
 
 -- an event: the heading of its layout and its cells
 pub record Event : Type 0 where
@@ -32,61 +65,68 @@ no_heading = record { path = []; fields = [] }
 abbrev pub events_of : List LogStep → List Event
 events_of steps = events_behind no_heading steps
 
-abbrev pub value_text : Value → List ℕ
-value_text (value.Count n) = decimal n
-value_text (value.Text t) = t
-value_text (value.Name t) = t
-value_text _ = []
-
-abbrev pub cell_text : Cell → List ℕ
-cell_text (cell.One v) = value_text v
-cell_text _ = []
-
--- the path, and each cell behind a tab
+-- the path by the plain escape, and each cell behind a tab
 abbrev pub row_text : Event → List ℕ
-row_text event = event.heading.path ++ flat_map (λ x. 9 ∷ cell_text x) event.cells
-
-abbrev pub hexadecimal : ℕ → ℕ
-hexadecimal digit = if nat_lt digit 10 then 48 + digit else 87 + digit
-
--- A backslash stands twice, and a byte that is no printable character of ASCII is `\\x` and two hexadecimal digits.
-abbrev pub escaped_byte : ℕ → List ℕ
-escaped_byte b =
-    if b == 92 then 92 ∷ (92 ∷ [])
-    else (if nat_lt b 32 || nat_le 127 b then 92 ∷ (120 ∷ (hexadecimal (b / 16) ∷ (hexadecimal (b % 16) ∷ []))) else b ∷ [])
-
--- the plain escape of a name
-abbrev pub escaped : List ℕ → List ℕ
-escaped name = flat_map escaped_byte name
-
-abbrev pub line : List ℕ → List ℕ
-line text = text ++ 10 ∷ []
-
-abbrev pub fault_name : ZeekFault → List ℕ
-fault_name fault.NoHead = codes "NoHead"
-fault_name fault.BadSeparator = codes "BadSeparator"
-fault_name fault.FieldsTypes = codes "FieldsTypes"
-fault_name fault.TooManyColumns = codes "TooManyColumns"
-fault_name fault.EmptyName = codes "EmptyName"
-fault_name fault.SameName = codes "SameName"
-fault_name fault.UnknownKind = codes "UnknownKind"
-fault_name fault.Floating = codes "Floating"
-fault_name fault.CellCount = codes "CellCount"
-fault_name fault.BadCell = codes "BadCell"
-fault_name fault.LineTooLong = codes "LineTooLong"
-
--- the line of an end, and nothing where all went well
-abbrev pub end_text : ZeekEnd → List ℕ
-end_text Done = []
-end_text (Fault l c what) = line (codes "fault line " ++ (decimal l ++ (codes " column " ++ (decimal c ++ 32 ∷ fault_name what))))
-end_text ReadFault = line (codes "read fault")
-end_text TooLong = line (codes "too long")
-end_text Memory = []
+row_text event = escaped_text event.heading.path ++ flat_map (λ x. 9 ∷ cell_text x) event.cells
 
 -- the line of each event that matches
 abbrev pub matches_text : Expr → List Event → List ℕ
 matches_text expr events = flat_map (λ e. line (row_text e)) (filter (λ e. holds e.heading e.cells expr) events)
 
+-- the last line of a scan, and nothing where all went well
+abbrev pub scan_end : ZeekEnd → List ℕ
+scan_end Done = []
+scan_end end = line (end_text end)
+
 -- What `scan` writes of a log: the matching rows in order, and then its end.
 abbrev pub scan_text : Steps → Expr → List ℕ
-scan_text steps expr = matches_text expr (events_of steps.given) ++ end_text steps.end
+scan_text steps expr = matches_text expr (events_of steps.given) ++ scan_end steps.end
+
+-- Layouts
+
+-- a layout of a log, and how many rows it has
+pub record Part : Type 0 where
+  pub heading : Heading
+  pub rows : ℕ
+
+-- the rows before the next head
+abbrev pub rows_first : List LogStep → ℕ
+rows_first [] = 0
+rows_first (Head next ∷ steps) = 0
+rows_first (Line cells ∷ steps) = 1 + rows_first steps
+
+-- these steps cut at their heads: each head with the number of its rows
+abbrev pub parts_of : List LogStep → List Part
+parts_of [] = []
+parts_of (Head heading ∷ steps) = record { heading = heading; rows = rows_first steps } ∷ parts_of steps
+parts_of (Line cells ∷ steps) = parts_of steps
+
+abbrev pub part_text : Part → List ℕ
+part_text part =
+    codes "layout " ++ (escaped_text part.heading.path ++ (codes " columns " ++ (decimal (length part.heading.fields) ++ (codes " rows " ++ decimal part.rows))))
+
+abbrev pub check_end : ZeekEnd → List ℕ
+check_end end = line (codes "end " ++ end_text end)
+
+-- What `check` writes of a log: its layouts in order, and then its end.
+abbrev pub check_text : Steps → List ℕ
+check_text steps = flat_map (λ part. line (part_text part)) (parts_of steps.given) ++ check_end steps.end
+
+-- Other lines
+
+abbrev pub usage_line : List ℕ
+usage_line = line (codes "usage: vast scan FILE QUERY, steps SCRIPT, check FILE, load SEED ROWS, run FILE..")
+
+abbrev pub open_line : List ℕ → List ℕ
+open_line name = line (codes "open " ++ escaped_text name)
+
+abbrev pub query_fault_name : QueryWhat → List ℕ
+query_fault_name query.Unexpected = codes "Unexpected"
+query_fault_name query.BadLiteral = codes "BadLiteral"
+query_fault_name query.KindClash = codes "KindClash"
+query_fault_name query.TooDeep = codes "TooDeep"
+query_fault_name query.TooLong = codes "TooLong"
+
+-- the line of a query that is refused
+abbrev pub refused_line : QueryFault → List ℕ
+refused_line fault = line (codes "query p1 at " ++ (decimal fault.at ++ 32 ∷ query_fault_name fault.what))

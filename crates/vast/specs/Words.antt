@@ -1,14 +1,31 @@
 -- The words of a command.
 use Rattle.std.specs.Prelude.{ℕ, List, [], ◌∷◌, Option, None, Some, if◌then◌else◌, codes}
 use Rattle.std.specs.Str.{bytes_eq}
+use Rattle.vast.specs.declared.words.Command.{Command}
+use Rattle.vast.specs.declared.words.Command.TheVariants as command
 
--- `scan FILE QUERY`
-pub record Scan : Type 0 where
-  pub file : List ℕ
-  pub query : List ℕ
+-- a command by the bytes of its words: `scan FILE QUERY` or `check FILE`
+pub data Wanted : Type 0 where
+  Scan : List ℕ → List ℕ → Wanted
+  Check : List ℕ → Wanted
 
--- The commands that there are: exactly three words, the first of which is `scan`.
-abbrev pub scan_of : List (List ℕ) → Option Scan
-scan_of (command ∷ (file ∷ (query ∷ []))) =
-    if bytes_eq command (codes "scan") then Some (record { file = file; query = query }) else None
-scan_of _ = None
+abbrev pub scan_words : List ℕ → List ℕ → List ℕ → Option Wanted
+scan_words command file query = if bytes_eq command (codes "scan") then Some (Scan file query) else None
+
+abbrev pub check_words : List ℕ → List ℕ → Option Wanted
+check_words command file = if bytes_eq command (codes "check") then Some (Check file) else None
+
+-- The commands that there are: exactly three words, the first of which is `scan`, or two, the first of which is `check`.
+abbrev pub command_of : List (List ℕ) → Option Wanted
+command_of (command ∷ (file ∷ [])) = check_words command file
+command_of (command ∷ (file ∷ (query ∷ []))) = scan_words command file query
+command_of _ = None
+
+abbrev pub file_of : Wanted → List ℕ
+file_of (Scan file query) = file
+file_of (Check file) = file
+
+-- a command as the program has it
+abbrev pub wanted_of : Command → Wanted
+wanted_of (command.Scan file query) = Scan file.now query.now
+wanted_of (command.Check file) = Check file.now

@@ -1,123 +1,85 @@
-//! The texts of rows and ends.
-ghost use Rattle.std.specs.Prelude.{◌≡◌, ◌<◌, ◌++◌, ◌∷◌, codes, IfOk, OnOk};
+//! The texts of rows, layouts and ends.
+ghost use Rattle.std.specs.Prelude.{◌≡◌, ◌++◌, ◌∷◌, codes, OnOk, IfOk};
 ghost use Rattle.std.specs.Fmt.{decimal};
+ghost use Rattle.std.specs.List.{flat_map};
+ghost use Rattle.value_text.specs.Writing.{cell_text};
 ghost use Rattle.vast_value.specs.Headings.{heading_of};
-ghost use Rattle.vast.specs.Causes.{open_line};
-ghost use Rattle.vast.specs.Texts.{row_text, cell_text, value_text, line, fault_name, end_text, escaped, escaped_byte, hexadecimal};
+ghost use Rattle.vast.specs.Texts.{row_text, line, fault_name, fault_text, end_text, part_text, open_line, query_fault_name, refused_line};
 
+use itoa::Buffer as Digits;
+use query_parse::{QueryFault, QueryWhat};
 use std::alloc::{AllocError, Global};
-use vast_value::{Bytes, Cell, Layout, Row, Value};
+use value_text::{write_cell, write_escaped};
+use vast_value::{Bytes, Cell, Layout, Row};
 use zeek_log::{ZeekEnd, ZeekFault};
 
-/// The line of a row: its path, and each cell behind a tab.
-pub fn row_line(alloc: Global, layout: &Layout, row: &Row) -> Result<Bytes, AllocError>
-    ensures { IfOk result (λ text. text ≡ line (row_text (record { heading = heading_of layout.now; cells = row.now }))) }
+/// Puts the line of a row behind what `out` holds: its path, and each cell behind a tab.
+pub fn push_row(layout: &Layout, row: &Row, out: &mut Bytes) -> Result<(), AllocError>
+    ensures { OnOk result (out.new ≡ out.old ++ line (row_text (record { heading = heading_of layout.now; cells = row.now }))) }
 {
-    let mut text = Bytes::new(alloc);
-    text.append(layout.path())?;
-    for cell in row.as_slice() {
-        push_cell(alloc, &mut text, cell)?;
-    }
-    text.push(b'\n')?;
-    Ok(text)
+    write_escaped(layout.path(), out)?;
+    push_cells(row.as_slice(), out)?;
+    out.push(b'\n')
 }
 
-// Puts a tab and the cell's text behind the others.
-fn push_cell(alloc: Global, text: &mut Bytes, cell: &Cell) -> Result<(), AllocError>
-    ensures { OnOk result (text.new ≡ text.old ++ 9 ∷ cell_text cell.now) }
+fn push_cells(cells: &[Cell], out: &mut Bytes) -> Result<(), AllocError>
+    ensures { OnOk result (out.new ≡ out.old ++ flat_map (λ x. 9 ∷ cell_text x) cells.now) }
 {
-    text.push(b'\t')?;
-    match cell {
-        Cell::One(value) => push_value(alloc, text, value),
-        _ => Ok(()),
-    }
-}
-
-fn push_value(alloc: Global, text: &mut Bytes, value: &Value) -> Result<(), AllocError>
-    ensures { OnOk result (text.new ≡ text.old ++ value_text value.now) }
-{
-    match value {
-        Value::Count(number) => push_number(alloc, text, *number),
-        Value::Text(own) => text.append(own.as_slice()),
-        Value::Name(own) => text.append(own.as_slice()),
-        _ => Ok(()),
-    }
-}
-
-fn push_number(alloc: Global, text: &mut Bytes, number: u64) -> Result<(), AllocError>
-    ensures { OnOk result (text.new ≡ text.old ++ decimal number) }
-{
-    let digits = number.to_string(alloc)?;
-    text.append(digits.as_bytes())
-}
-
-/// The line of a name that could not be opened, by the plain escape.
-pub fn open_line(alloc: Global, name: &str) -> Result<Bytes, AllocError>
-    ensures { IfOk result (λ text. text ≡ open_line name.now) }
-{
-    let mut text = Bytes::new(alloc);
-    text.append(b"open ")?;
-    push_escaped(&mut text, name.as_bytes())?;
-    text.push(b'\n')?;
-    Ok(text)
-}
-
-fn push_escaped(text: &mut Bytes, name: &[u8]) -> Result<(), AllocError>
-    ensures { OnOk result (text.new ≡ text.old ++ escaped name.now) }
-{
-    for byte in name {
-        push_escaped_byte(text, *byte)?;
+    for cell in cells {
+        push_cell(cell, out)?;
     }
     Ok(())
 }
 
-fn push_escaped_byte(text: &mut Bytes, byte: u8) -> Result<(), AllocError>
-    ensures { OnOk result (text.new ≡ text.old ++ escaped_byte byte) }
+fn push_cell(cell: &Cell, out: &mut Bytes) -> Result<(), AllocError>
+    ensures { OnOk result (out.new ≡ out.old ++ 9 ∷ cell_text cell.now) }
 {
-    if byte == b'\\' {
-        return text.append(b"\\\\");
-    }
-    if byte < 32 || 127 <= byte {
-        let digits = [b'\\', b'x', hexadecimal(byte / 16), hexadecimal(byte % 16)];
-        return text.append(&digits);
-    }
-    text.push(byte)
+    out.push(b'\t')?;
+    write_cell(cell, out)
 }
 
-fn hexadecimal(digit: u8) -> u8
-    requires { digit < 16 }
-    ensures { result ≡ hexadecimal digit }
+/// Puts the line of a layout behind what `out` holds.
+pub fn push_layout(layout: &Layout, rows: u64, out: &mut Bytes) -> Result<(), AllocError>
+    ensures { OnOk result (out.new ≡ out.old ++ line (part_text (record { heading = heading_of layout.now; rows = rows }))) }
 {
-    if digit < 10 { 48 + digit } else { 87 + digit }
+    out.append(b"layout ")?;
+    write_escaped(layout.path(), out)?;
+    out.append(b" columns ")?;
+    push_number(layout.columns().len() as u64, out)?;
+    out.append(b" rows ")?;
+    push_number(rows, out)?;
+    out.push(b'\n')
 }
 
-/// The line of an end; the empty text for `Done` and `Memory`.
-pub fn end_line(alloc: Global, end: ZeekEnd) -> Result<Bytes, AllocError>
-    ensures { IfOk result (λ text. text ≡ end_text end) }
+fn push_number(number: u64, out: &mut Bytes) -> Result<(), AllocError>
+    ensures { OnOk result (out.new ≡ out.old ++ decimal number) }
 {
-    let mut text = Bytes::new(alloc);
+    let mut digits = Digits::new();
+    out.append(digits.format(number).as_bytes())
+}
+
+/// Puts how a log ended behind what `out` holds.
+pub fn push_end(end: ZeekEnd, out: &mut Bytes) -> Result<(), AllocError>
+    ensures { OnOk result (out.new ≡ out.old ++ end_text end) }
+{
     match end {
-        ZeekEnd::Done => {}
-        ZeekEnd::Fault { line, column, what } => return fault_line(alloc, line, column, what),
-        ZeekEnd::ReadFault => text.append(b"read fault\n")?,
-        ZeekEnd::TooLong => text.append(b"too long\n")?,
-        ZeekEnd::Memory => {}
+        ZeekEnd::Done => out.append(b"done"),
+        ZeekEnd::Fault { line, column, what } => push_fault(line, column, what, out),
+        ZeekEnd::ReadFault => out.append(b"read fault"),
+        ZeekEnd::TooLong => out.append(b"too long"),
+        ZeekEnd::Memory => out.append(b""),
     }
-    Ok(text)
 }
 
-fn fault_line(alloc: Global, at: u64, column: u32, what: ZeekFault) -> Result<Bytes, AllocError>
-    ensures { IfOk result (λ text. text ≡ line (codes "fault line " ++ (decimal at ++ (codes " column " ++ (decimal column ++ 32 ∷ fault_name what))))) }
+fn push_fault(at: u64, column: u32, what: ZeekFault, out: &mut Bytes) -> Result<(), AllocError>
+    ensures { OnOk result (out.new ≡ out.old ++ fault_text at column what) }
 {
-    let mut text = Bytes::new(alloc);
-    text.append(b"fault line ")?;
-    push_number(alloc, &mut text, at)?;
-    text.append(b" column ")?;
-    push_number(alloc, &mut text, u64::from(column))?;
-    text.push(b' ')?;
-    text.append(fault_name(what))?;
-    text.push(b'\n')?;
-    Ok(text)
+    out.append(b"fault line ")?;
+    push_number(at, out)?;
+    out.append(b" column ")?;
+    push_number(u64::from(column), out)?;
+    out.push(b' ')?;
+    out.append(fault_name(what))
 }
 
 fn fault_name(what: ZeekFault) -> &'static [u8]
@@ -135,5 +97,41 @@ fn fault_name(what: ZeekFault) -> &'static [u8]
         ZeekFault::CellCount => b"CellCount",
         ZeekFault::BadCell => b"BadCell",
         ZeekFault::LineTooLong => b"LineTooLong",
+    }
+}
+
+/// The line of a name that could not be opened, by the plain escape.
+pub fn open_line(alloc: Global, name: &str) -> Result<Bytes, AllocError>
+    ensures { IfOk result (λ text. text ≡ open_line name.now) }
+{
+    let mut text = Bytes::new(alloc);
+    text.append(b"open ")?;
+    write_escaped(name.as_bytes(), &mut text)?;
+    text.push(b'\n')?;
+    Ok(text)
+}
+
+/// The line of a query that is refused.
+pub fn refused_line(alloc: Global, fault: QueryFault) -> Result<Bytes, AllocError>
+    ensures { IfOk result (λ text. text ≡ refused_line fault) }
+{
+    let mut text = Bytes::new(alloc);
+    text.append(b"query p1 at ")?;
+    push_number(u64::from(fault.at), &mut text)?;
+    text.push(b' ')?;
+    text.append(query_fault_name(fault.what))?;
+    text.push(b'\n')?;
+    Ok(text)
+}
+
+fn query_fault_name(what: QueryWhat) -> &'static [u8]
+    ensures { result.now ≡ query_fault_name what }
+{
+    match what {
+        QueryWhat::Unexpected => b"Unexpected",
+        QueryWhat::BadLiteral => b"BadLiteral",
+        QueryWhat::KindClash => b"KindClash",
+        QueryWhat::TooDeep => b"TooDeep",
+        QueryWhat::TooLong => b"TooLong",
     }
 }

@@ -1,20 +1,44 @@
 //! The words of a command.
 ghost use Rattle.std.specs.Prelude.{◌≡◌, map, MatchOption, Some, None};
 ghost use Rattle.std.specs.String.{string_bytes};
-ghost use Rattle.vast.specs.Words.{scan_of};
+ghost use Rattle.vast.specs.Words.{command_of, check_words, scan_words, wanted_of};
 
-/// The file and the query of `scan FILE QUERY`, if these are the words.
-pub fn scan_words(words: &[String]) -> Option<(&str, &str)>
-    ensures { MatchOption result (scan_of (map string_bytes words.now) ≡ None) (λ pair. scan_of (map string_bytes words.now) ≡ Some (record { file = pair.0.now; query = pair.1.now })) }
+/// A command.
+#[derive(Clone, Copy)]
+pub enum Command<'a> {
+    /// The rows of a file that match a query.
+    Scan { file: &'a str, query: &'a str },
+    /// The layouts of a file.
+    Check { file: &'a str },
+}
+
+/// The command that the words are, if they are one.
+pub fn read_words(words: &[String]) -> Option<Command<'_>>
+    ensures { MatchOption result (command_of (map string_bytes words.now) ≡ None) (λ command. command_of (map string_bytes words.now) ≡ Some (wanted_of command)) }
 {
     match words {
-        [command, file, query] => {
-            if command.as_bytes() == b"scan".as_slice() {
-                Some((file.as_str(), query.as_str()))
-            } else {
-                None
-            }
-        }
+        [command, file] => read_check(command, file),
+        [command, file, query] => read_scan(command, file, query),
         _ => None,
+    }
+}
+
+fn read_check<'a>(command: &str, file: &'a str) -> Option<Command<'a>>
+    ensures { MatchOption result (check_words command.now file.now ≡ None) (λ wanted. check_words command.now file.now ≡ Some (wanted_of wanted)) }
+{
+    if command.as_bytes() == b"check".as_slice() {
+        Some(Command::Check { file })
+    } else {
+        None
+    }
+}
+
+fn read_scan<'a>(command: &str, file: &'a str, query: &'a str) -> Option<Command<'a>>
+    ensures { MatchOption result (scan_words command.now file.now query.now ≡ None) (λ wanted. scan_words command.now file.now query.now ≡ Some (wanted_of wanted)) }
+{
+    if command.as_bytes() == b"scan".as_slice() {
+        Some(Command::Scan { file, query })
+    } else {
+        None
     }
 }

@@ -1,0 +1,139 @@
+//! A command on one file.
+ghost use Rattle.std.specs.Prelude.{◌≡◌, ◌≤◌, ℕ, List, Option, None, Some, Err, IsSome, IfSome, IfNone, IsSomeAnd};
+ghost use Rattle.query_parse.specs.Parsing.{parsed};
+ghost use Rattle.vast_io.specs.Causes.{Rose};
+ghost use Rattle.vast.specs.Causes.{Says, SaysUnopened, TellsOf, WasOpened, Does, IsOfFile, Refuses};
+ghost use Rattle.vast.specs.Texts.{refused_line, usage_line};
+ghost use Rattle.vast.specs.Words.{Scan, Check};
+
+use crate::checking::CheckReport;
+use crate::report::{Report, write_report};
+use crate::scanning::ScanReport;
+use crate::status::Status;
+use crate::texts::{open_line, refused_line};
+use query_parse::{ParseEnd, QueryFault, parse};
+use std::alloc::Global;
+use vast_io::{OpenEnd, Opener, Sink, write_all};
+
+/// How a command ended.
+#[derive(Drop)]
+pub struct Ended<O: Opener> {
+    pub status: Status,
+    /// The opened source as it was left. It is `None` exactly where none was opened, and may be `None` under `Memory`.
+    pub rest: Option<O::Src>,
+}
+
+/// Refuses words that are no command.
+pub fn refuse_words<O: Opener, K: Sink>(opener: &O, sink: &mut K) -> Ended<O>
+    ensures does { Does O.Src.left O.Src.faults None (O.bytes_of opener.now) (O.faults opener.now) (O.faults opener.now) (K.faults sink.old) (K.faults sink.new) (K.written sink.old) (K.written sink.new) result.status result.rest }
+{
+    say(
+        sink,
+        b"usage: vast scan FILE QUERY, steps SCRIPT, check FILE, load SEED ROWS, run FILE..\n",
+    );
+    unopened(Status::Usage)
+}
+
+/// Writes the rows of a file that match a query.
+pub fn scan_file<O: Opener, K: Sink>(
+    alloc: Global,
+    file: &str,
+    query: &str,
+    opener: &mut O,
+    sink: &mut K,
+) -> Ended<O>
+    ensures does { Does O.Src.left O.Src.faults (Some (Scan file.now query.now)) (O.bytes_of opener.old) (O.faults opener.old) (O.faults opener.new) (K.faults sink.old) (K.faults sink.new) (K.written sink.old) (K.written sink.new) result.status result.rest }
+{
+    match parse(alloc, query) {
+        Ok(expr) => {
+            let report = ScanReport { expr, layout: None };
+            report_file(alloc, file, report, opener, sink)
+        }
+        Err(ParseEnd::Fault(fault)) => unopened(refuse_query(alloc, fault, sink)),
+        Err(ParseEnd::Memory) => unopened(Status::Memory),
+    }
+}
+
+/// Writes the layouts of a file.
+pub fn check_file<O: Opener, K: Sink>(
+    alloc: Global,
+    file: &str,
+    opener: &mut O,
+    sink: &mut K,
+) -> Ended<O>
+    ensures does { Does O.Src.left O.Src.faults (Some (Check file.now)) (O.bytes_of opener.old) (O.faults opener.old) (O.faults opener.new) (K.faults sink.old) (K.faults sink.new) (K.written sink.old) (K.written sink.new) result.status result.rest }
+{
+    let report = CheckReport {
+        layout: None,
+        rows: 0,
+    };
+    report_file(alloc, file, report, opener, sink)
+}
+
+// Writes the line of a query that is refused.
+fn refuse_query<K: Sink>(alloc: Global, fault: QueryFault, sink: &mut K) -> Status
+    ensures { Refuses result fault (K.faults sink.old) (K.faults sink.new) (K.written sink.old) (K.written sink.new) }
+{
+    match refused_line(alloc, fault) {
+        Ok(line) => {
+            say(sink, line.as_slice());
+            Status::QueryRefused
+        }
+        Err(_) => Status::Memory,
+    }
+}
+
+// Opens a file, and writes what is told of it.
+fn report_file<W: Report + Drop, O: Opener, K: Sink>(
+    alloc: Global,
+    file: &str,
+    report: W,
+    opener: &mut O,
+    sink: &mut K,
+) -> Ended<O>
+    requires heading { W.heading report ≡ None }
+    requires rows { W.rows report ≡ 0 }
+    ensures known { IsOfFile result.status }
+    ensures open { result.status ≡ Status.OpenFault → Rose (O.faults opener.old) (O.faults opener.new) }
+    ensures write { result.status ≡ Status.WriteFault → Rose (K.faults sink.old) (K.faults sink.new) }
+    ensures read { result.status ≡ Status.ReadFault → IsSomeAnd result.rest (λ source. Rose 0 (O.Src.faults source)) }
+    ensures opened { WasOpened result.status (IsSome result.rest) }
+    ensures told { IfSome result.rest (λ source. TellsOf result.status (O.bytes_of opener.old file.now) (O.Src.left source) 0 (O.Src.faults source) (W.behind report) (K.written sink.old) (K.written sink.new)) }
+    ensures early { IfNone result.rest (SaysUnopened file.now result.status (K.faults sink.old) (K.faults sink.new) (K.written sink.old) (K.written sink.new)) }
+{
+    let Ok(line) = open_line(alloc, file) else {
+        return unopened(Status::Memory);
+    };
+    match opener.open_one(alloc, file) {
+        Ok(source) => {
+            let mut report = report;
+            let mut source = source;
+            let status = write_report(alloc, &mut report, &mut source, sink);
+            Ended {
+                status,
+                rest: Some(source),
+            }
+        }
+        Err(OpenEnd::Failed) => {
+            say(sink, line.as_slice());
+            unopened(Status::OpenFault)
+        }
+        Err(OpenEnd::Memory) => unopened(Status::Memory),
+    }
+}
+
+// The end of a command that opened nothing.
+fn unopened<O: Opener>(status: Status) -> Ended<O>
+    ensures status { result.status ≡ status }
+    ensures rest { result.rest ≡ None }
+{
+    Ended { status, rest: None }
+}
+
+// Writes a line whose failing changes no status.
+fn say<K: Sink>(sink: &mut K, text: &[u8])
+    ensures says { Says (K.faults sink.old) (K.faults sink.new) (K.written sink.old) (K.written sink.new) text.now }
+    ensures later { K.faults sink.old ≤ K.faults sink.new }
+{
+    let _ = write_all(sink, text);
+}

@@ -1,0 +1,171 @@
+//! What a command tells of a log.
+ghost use Rattle.std.specs.Prelude.{◌≡◌, ◌≢◌, ℕ, ◌+◌, ◌<◌, ◌≤◌, ◌^◌, ◌++◌, List, Option, None, is_some, OnOk, IsErrOf};
+ghost use Rattle.vast_io.specs.Causes.{Rose};
+ghost use Rattle.vast_io.specs.Told.{WritesPart};
+ghost use Rattle.vast_value.specs.Headings.{Heading};
+ghost use Rattle.zeek_log.specs.Steps.{Steps, ended, first, step_of};
+ghost use Rattle.vast.specs.Causes.{TellsOf, TellsText, IsOfReport};
+ghost use Rattle.vast.specs.Reports.{Carries, FitsLast, Moves, heading_after, status_of};
+
+use crate::buffer::Buffer;
+use crate::status::Status;
+use std::alloc::{AllocError, Global};
+use vast_io::{Sink, Source};
+use vast_value::Bytes;
+use zeek_log::{Step, ZeekEnd, ZeekReader};
+
+/// No log has more steps: each takes a byte of it, but the last.
+const MOST_STEPS: u64 = (1 << 36) + 1;
+
+/// What is told of a log, step by step.
+///
+/// Contracts see what is still to be told of the steps that are to come, the heading of the last layout, and how many
+/// rows of it there were, where they are counted.
+pub trait Report {
+    ghost behind: { Self → Steps → List ℕ };
+
+    ghost heading: { Self → Option Heading };
+
+    ghost rows: { Self → ℕ };
+
+    /// Takes a step, and puts what it tells behind what `out` holds.
+    fn take(&mut self, step: Step, out: &mut Bytes) -> Result<(), AllocError>
+        requires fits { FitsLast (heading self.old) step }
+        requires few { rows self.old < 2 ^ 40 }
+        ensures text { OnOk result (Carries (behind self.old) (behind self.new) (step_of step) out.old out.new) }
+        ensures heading { OnOk result (heading self.new ≡ heading_after (heading self.old) (step_of step)) }
+        ensures rows { OnOk result (rows self.new ≤ rows self.old + 1) };
+
+    /// Puts what is told at the end of a log behind what `out` holds.
+    fn end(&self, end: ZeekEnd, out: &mut Bytes) -> Result<(), AllocError>
+        ensures { OnOk result (out.new ≡ out.old ++ behind self.now (ended end)) };
+}
+
+/// Why a text was not written whole.
+#[derive(Clone, Copy, Debug, PartialEq, Eq)]
+pub enum WriteEnd {
+    /// The sink's count of faults rose.
+    Failed,
+    /// No memory was left.
+    Memory,
+}
+
+impl WriteEnd {
+    /// The status of a command that ends so.
+    pub fn status(self) -> Status
+        ensures value { result ≡ status_of self }
+        ensures known { IsOfReport result }
+    {
+        match self {
+            WriteEnd::Failed => Status::WriteFault,
+            WriteEnd::Memory => Status::Memory,
+        }
+    }
+}
+
+/// Reads a log, and writes what is told of it.
+pub fn write_report<W: Report, S: Source, K: Sink>(
+    alloc: Global,
+    report: &mut W,
+    source: &mut S,
+    sink: &mut K,
+) -> Status
+    requires heading { W.heading report.old ≡ None }
+    requires rows { W.rows report.old ≡ 0 }
+    ensures told { TellsOf result (S.left source.old) (S.left source.new) (S.faults source.old) (S.faults source.new) (W.behind report.old) (K.written sink.old) (K.written sink.new) }
+    ensures known { IsOfReport result }
+    ensures read { result ≡ Status.ReadFault → Rose (S.faults source.old) (S.faults source.new) }
+    ensures write { result ≡ Status.WriteFault → Rose (K.faults sink.old) (K.faults sink.new) }
+    ensures tells { is_some (S.left source.new) ≡ is_some (S.left source.old) }
+{
+    let Ok(reader) = ZeekReader::new(alloc) else {
+        return Status::Memory;
+    };
+    let Ok(buffer) = Buffer::new(alloc) else {
+        return Status::Memory;
+    };
+    let mut reader = reader;
+    let mut buffer = buffer;
+    for _ in 0..MOST_STEPS {
+        match reader.next(alloc, source) {
+            Ok(step) => {
+                if let Err(end) = write_step(report, step, &mut buffer, sink) {
+                    return end.status();
+                }
+            }
+            Err(end) => return write_end(report, end, &mut buffer, sink),
+        }
+    }
+    Status::Memory
+}
+
+// Takes a step, and writes what is gathered where it is much.
+fn write_step<W: Report, K: Sink>(
+    report: &mut W,
+    step: Step,
+    buffer: &mut Buffer,
+    sink: &mut K,
+) -> Result<(), WriteEnd>
+    requires fits { FitsLast (W.heading report.old) step }
+    requires few { W.rows report.old < 2 ^ 40 }
+    ensures moves { OnOk result (Moves (W.behind report.old) (W.behind report.new) (step_of step) buffer.old.text buffer.new.text (K.written sink.old) (K.written sink.new)) }
+    ensures part { (rest : Steps) → WritesPart (K.written sink.old) (K.written sink.new) (buffer.old.text ++ W.behind report.old (first (step_of step) rest)) }
+    ensures heading { OnOk result (W.heading report.new ≡ heading_after (W.heading report.old) (step_of step)) }
+    ensures rows { OnOk result (W.rows report.new ≤ W.rows report.old + 1) }
+    ensures failed { IsErrOf result WriteEnd.Failed → Rose (K.faults sink.old) (K.faults sink.new) }
+    ensures kept { OnOk result (K.faults sink.new ≡ K.faults sink.old) }
+{
+    if report.take(step, &mut buffer.text).is_err() {
+        return Err(WriteEnd::Memory);
+    }
+    match buffer.write_full(sink) {
+        Ok(()) => Ok(()),
+        Err(_) => Err(WriteEnd::Failed),
+    }
+}
+
+// Tells the end, writes all that is gathered, and answers the status of a command that ends so. Where memory was wanting
+// nothing more is written.
+fn write_end<W: Report, K: Sink>(
+    report: &W,
+    end: ZeekEnd,
+    buffer: &mut Buffer,
+    sink: &mut K,
+) -> Status
+    ensures ended { end ≢ ZeekEnd.Memory → TellsText result end (buffer.old.text ++ W.behind report.now (ended end)) (K.written sink.old) (K.written sink.new) }
+    ensures memory { end ≡ ZeekEnd.Memory → (result ≡ Status.Memory) × (K.written sink.new ≡ K.written sink.old) }
+    ensures known { IsOfReport result }
+    ensures read { result ≡ Status.ReadFault → end ≡ ZeekEnd.ReadFault }
+    ensures write { result ≡ Status.WriteFault → Rose (K.faults sink.old) (K.faults sink.new) }
+{
+    match end {
+        ZeekEnd::Memory => Status::Memory,
+        _ => write_last(report, end, buffer, sink),
+    }
+}
+
+fn write_last<W: Report, K: Sink>(
+    report: &W,
+    end: ZeekEnd,
+    buffer: &mut Buffer,
+    sink: &mut K,
+) -> Status
+    ensures ended { TellsText result end (buffer.old.text ++ W.behind report.now (ended end)) (K.written sink.old) (K.written sink.new) }
+    ensures known { IsOfReport result }
+    ensures read { result ≡ Status.ReadFault → end ≡ ZeekEnd.ReadFault }
+    ensures write { result ≡ Status.WriteFault → Rose (K.faults sink.old) (K.faults sink.new) }
+{
+    if report.end(end, &mut buffer.text).is_err() {
+        return Status::Memory;
+    }
+    if buffer.write(sink).is_err() {
+        return Status::WriteFault;
+    }
+    match end {
+        ZeekEnd::Done => Status::Done,
+        ZeekEnd::Fault { .. } => Status::InputFault,
+        ZeekEnd::ReadFault => Status::ReadFault,
+        ZeekEnd::TooLong => Status::TooLong,
+        ZeekEnd::Memory => Status::Memory,
+    }
+}
