@@ -63,7 +63,7 @@ fn opener(alloc: Global, bytes: &[u8], outside: &Outside) -> Result<MemOpener, A
         fails: vec![in alloc; outside.read]?,
     })?;
     let fails = vec![in alloc; outside.opening]?;
-    Ok(MemOpener::new(files, outside.piece, fails))
+    Ok(MemOpener::new(files, outside.piece.max(1), fails))
 }
 
 // The status of the command, and what it wrote to a sink of 5 bytes a call.
