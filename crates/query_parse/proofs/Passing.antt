@@ -1,19 +1,18 @@
 -- Nothing in the grammar is refused: the tokens of a query lead a parser from its beginning to its end.
-use Rattle.std.proofs.Common.{◌≡◌, ℕ, zero, suc, ◌+◌, ◌-◌, ◌<◌, ◌≤◌, Bool, true, false, ◌&&◌, cond, if◌then◌else◌, nat_lt, List, [], ◌∷◌, ◌++◌, Option, None, Some, Result, Ok, Err, max, refl, ap, sym, ◌∙◌, subst, append_assoc, append-nil, arith}
+use Rattle.std.proofs.Common.{◌≡◌, ℕ, zero, suc, ◌+◌, ◌-◌, ◌<◌, ◌≤◌, Bool, true, false, ◌&&◌, nat_lt, List, [], ◌∷◌, ◌++◌, Option, Ok, refl, ap, sym, ◌∙◌, subst, append_assoc, arith}
 use Rattle.std.proofs.lemmas.Bool.{lt-ltb}
 use Rattle.query_meaning.specs.declared.expr.Expr.{Expr, roll-Expr}
 use Rattle.query_meaning.specs.declared.expr.Expr.TheOpen as level
 use Rattle.query_meaning.specs.declared.expr.Test.{Test}
 use Rattle.query_meaning.specs.Agreement.{agrees}
-use Rattle.query_parse.specs.declared.fault.QueryFault.{QueryFault}
 use Rattle.query_parse.specs.declared.lexeme.Lexeme.{Lexeme}
 use Rattle.query_parse.specs.declared.lexeme.Lexeme.TheVariants as lexeme
 use Rattle.query_parse.specs.declared.parser.Group.{Group as Read}
 use Rattle.query_parse.specs.declared.parser.Parser.{Parser}
 use Rattle.query_parse.specs.declared.parser.Phase.TheVariants.{Start, Whole}
 use Rattle.query_parse.specs.Faults.{kinds_of}
-use Rattle.query_parse.specs.Grammar.{UnitTree, AndTree, OrTree, Plain, Turned, Negated, Group, Lone, Both, Only, Either, unit_spelled, and_spelled, or_spelled, unit_depth, and_depth, depth_of, unit_agrees, and_agrees, all_agree, unit_expr, and_members, or_members, joined_and, joined_or, stands_for, test_of, turned, most_open, Reads}
-use Rattle.query_parse.specs.Parsing.{negated, behind_unit, group_expr, fresh, start, run, and_then, next, closed, split_last, whole_next, finished_in, with_test}
+use Rattle.query_parse.specs.Grammar.{UnitTree, AndTree, OrTree, Plain, Turned, Negated, Group, Lone, Both, Only, Either, unit_spelled, and_spelled, or_spelled, unit_depth, and_depth, depth_of, unit_agrees, and_agrees, all_agree, unit_expr, and_members, or_members, joined_and, joined_or, test_of, turned, Reads}
+use Rattle.query_parse.specs.Parsing.{negated, behind_unit, group_expr, fresh, start, run, and_then, closed, with_test}
 use Rattle.query_parse.specs.Tokens.{Token}
 use Rattle.query_parse.proofs.ParsingLemmas.{last_group, negated_more}
 use Rattle.query_parse.proofs.Standing.{tok}

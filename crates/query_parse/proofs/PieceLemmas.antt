@@ -23,6 +23,8 @@ use Rattle.query_parse.specs.declared.tokens.Piece.{Piece}
 use Rattle.query_parse.specs.Lexemes.{is_blank, is_word_byte, begins_literal, is_name, literal_if, literal_or_bad, kind_or_plain, kind_picked, word_lexeme}
 use Rattle.query_parse.specs.Parsing.{is_end, run, next, start, finished, and_then, Goes, Moves, ReadsOn, Reached}
 use Rattle.query_parse.proofs.Ends.{EndsOnce}
+use Rattle.query_parse.specs.Faults.{kinds_of}
+use Rattle.query_parse.specs.Laws.{BlankSkipped}
 use Rattle.query_parse.specs.Tokens.{Token, piece_of, text_piece, word_piece, word_length, quoted, short_piece, double_piece, is_next, tokens_in, tokens_of}
 
 both : {X : Type 0} (c : Bool) (x x2 y y2 : X) → x ≡ x2 → y ≡ y2 → (if c then x else y) ≡ (if c then x2 else y2)
@@ -265,3 +267,25 @@ ends_once (suc n) at (b ∷ rest) room =
     once_if (is_blank b) (tokens_in n (at + 1) rest) (token_at at b rest) (tokens_in n (at + piece.length) (drop piece.length (b ∷ rest)))
     (ends_once n (at + 1) rest (omega (arith, room))) (piece_good b rest).lexeme
     (ends_once n (at + piece.length) (drop piece.length (b ∷ rest)) (omega (arith, room, left)))
+
+-- ---- what the tokens are doesn't hang on where they stand
+
+both_kinds : (c : Bool) (a b : List Token) (t u : Token) (x y : List Token) → kinds_of a ≡ kinds_of b → t.lexeme ≡ u.lexeme → kinds_of x ≡ kinds_of y
+    → kinds_of (if c then a else t ∷ x) ≡ kinds_of (if c then b else u ∷ y)
+both_kinds true a b t u x y skipped same rest = skipped
+both_kinds false a b t u x y skipped same rest = ap (λ (l : Lexeme). l ∷ kinds_of x) same ∙ ap (λ (ls : List Lexeme). u.lexeme ∷ ls) rest
+
+kinds_anywhere : (n at from : ℕ) (text : List ℕ) → kinds_of (tokens_in n at text) ≡ kinds_of (tokens_in n from text)
+kinds_anywhere zero at from text = refl
+kinds_anywhere (suc n) at from [] = refl
+kinds_anywhere (suc n) at from (b ∷ rest) =
+    let piece = piece_of b rest in
+    both_kinds (is_blank b) (tokens_in n (at + 1) rest) (tokens_in n (from + 1) rest) (token_at at b rest) (token_at from b rest)
+    (tokens_in n (at + piece.length) (drop piece.length (b ∷ rest))) (tokens_in n (from + piece.length) (drop piece.length (b ∷ rest)))
+    (kinds_anywhere n (at + 1) (from + 1) rest) refl
+    (kinds_anywhere n (at + piece.length) (from + piece.length) (drop piece.length (b ∷ rest)))
+
+pub blank_skipped : BlankSkipped
+blank_skipped at blank text is =
+    let skipped : tokens_in (suc (length text)) at (blank ∷ text) ≡ tokens_in (length text) (at + 1) text = rw is refl in
+    ap kinds_of skipped ∙ kinds_anywhere (length text) (at + 1) at text

@@ -2,6 +2,7 @@
 #![tactic(auto)]
 
 mod fault;
+mod laws;
 mod lexeme;
 mod parser;
 mod query;
@@ -10,6 +11,7 @@ mod tokens;
 mod words;
 
 pub use fault::{ParseEnd, QueryFault, QueryWhat};
+pub use laws::{blanks_are_skipped, reversed_is_turned};
 pub use query::parse;
 
 #[cfg(test)]
