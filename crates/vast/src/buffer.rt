@@ -1,5 +1,5 @@
 //! Texts that are gathered for a sink.
-ghost use Rattle.std.specs.Prelude.{◌≡◌, [], IfOk, OnOk};
+ghost use Rattle.std.specs.Prelude.{◌≡◌, ◌<◌, [], length, IfOk, OnOk};
 ghost use Rattle.std.specs.Io.KnownBytes.{append_known};
 ghost use Rattle.vast_io.specs.Causes.{HasCause};
 ghost use Rattle.vast_io.specs.Told.{WritesPart};
@@ -34,6 +34,7 @@ impl Buffer {
     /// together what was there.
     pub fn write_full<K: Sink>(&mut self, sink: &mut K) -> Result<(), Failed>
         ensures sends { OnOk result (Sends self.old.text self.new.text (K.written sink.old) (K.written sink.new)) }
+        ensures few { OnOk result (length self.new.text < 65536) }
         ensures part { WritesPart (K.written sink.old) (K.written sink.new) self.old.text }
         ensures cause { HasCause (K.faults sink.old) (K.faults sink.new) result }
     {
@@ -47,6 +48,7 @@ impl Buffer {
     pub fn write<K: Sink>(&mut self, sink: &mut K) -> Result<(), Failed>
         ensures whole { OnOk result (K.written sink.new ≡ append_known (K.written sink.old) self.old.text) }
         ensures sends { OnOk result (Sends self.old.text self.new.text (K.written sink.old) (K.written sink.new)) }
+        ensures few { OnOk result (length self.new.text < 65536) }
         ensures part { WritesPart (K.written sink.old) (K.written sink.new) self.old.text }
         ensures cause { HasCause (K.faults sink.old) (K.faults sink.new) result }
     {
