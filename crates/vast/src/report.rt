@@ -14,9 +14,6 @@ use vast_io::{Sink, Source};
 use vast_value::Bytes;
 use zeek_log::{Step, ZeekEnd, ZeekReader};
 
-/// No log has more steps: each takes a byte of it, but the last.
-const MOST_STEPS: u64 = (1 << 36) + 1;
-
 /// What is told of a log, step by step.
 ///
 /// Contracts see what is still to be told of the steps that are to come, the heading of the last layout, and how many
@@ -86,7 +83,7 @@ pub fn write_report<W: Report, S: Source, K: Sink>(
     };
     let mut reader = reader;
     let mut buffer = buffer;
-    for _ in 0..MOST_STEPS {
+    loop {
         match reader.next(alloc, source) {
             Ok(step) => {
                 if let Err(end) = write_step(report, step, &mut buffer, sink) {
@@ -96,7 +93,6 @@ pub fn write_report<W: Report, S: Source, K: Sink>(
             Err(end) => return write_end(report, end, &mut buffer, sink),
         }
     }
-    Status::Memory
 }
 
 // Takes a step, and writes what is gathered where it is much.

@@ -1,5 +1,5 @@
 //! The reader of a log.
-ghost use Rattle.std.specs.Prelude.{◌≡◌, ◌<◌, ◌≤◌, ℕ, List, Option, [], true, None, Some, Ok, is_some, IfOk};
+ghost use Rattle.std.specs.Prelude.{◌≡◌, ◌<◌, ◌≤◌, ℕ, List, Option, [], true, None, Some, Ok, is_some, IfOk, OnOk};
 ghost use Rattle.memchr.specs.Find.{IsFirstByte, is_byte};
 ghost use Rattle.zeek_log.specs.Going.{LineAnswer, LineCounts, answer_of, is_reading, lines_left};
 ghost use Rattle.zeek_log.specs.Heads.{opening};
@@ -77,6 +77,7 @@ impl ZeekReader {
         ensures counts { CountsOf self.old.state result (S.faults source.old) (S.faults source.new) }
         ensures fits { IfOk result (λ step. StepFits (heading_told self.old.state) (heading_told self.new.state) step) }
         ensures tells { is_some (S.left source.new) ≡ is_some (S.left source.old) }
+        ensures less { OnOk result (lines_left self.new.state < lines_left self.old.state) }
     {
         match self.phase {
             Phase::Ended(end) => Err(end),
@@ -94,6 +95,7 @@ impl ZeekReader {
         ensures next { Answer self.old self.new (S.left source.old) (S.left source.new) result }
         ensures counts { CountsBy result (S.faults source.old) (S.faults source.new) }
         ensures fits { IfOk result (λ step. StepFits (heading_told self.old.state) (heading_told self.new.state) step) }
+        ensures less { OnOk result (lines_left self.new.state < lines_left self.old.state) }
     {
         loop {
             match self.take_next(alloc, source) {
@@ -116,7 +118,7 @@ impl ZeekReader {
         requires { is_reading self.old.state ≡ true }
         ensures next { LineAnswer self.old self.new (S.left source.old) (S.left source.new) result }
         ensures counts { LineCounts result (S.faults source.old) (S.faults source.new) }
-        ensures less { result ≡ Ok None → lines_left self.new.state < lines_left self.old.state }
+        ensures less { OnOk result (lines_left self.new.state < lines_left self.old.state) }
     {
         match self.block.find_line(source) {
             Found::Line(count) => self.take_ended(alloc, count),
@@ -138,7 +140,7 @@ impl ZeekReader {
         requires found { IsFirstByte (is_byte 10) self.old.held (Some count) }
         ensures next { (now : Option (List ℕ)) → LineAnswer self.old self.new now now result }
         ensures counts { (n : ℕ) → LineCounts result n n }
-        ensures less { result ≡ Ok None → lines_left self.new.state < lines_left self.old.state }
+        ensures less { OnOk result (lines_left self.new.state < lines_left self.old.state) }
     {
         let (line, _) = self.block.as_slice().split_at(count);
         let outcome = take_line(alloc, &mut self.known, line);
@@ -155,6 +157,7 @@ impl ZeekReader {
         ensures next { (now : Option (List ℕ)) → IsMet now self.old.taken → LineAnswer self.old self.new now now result }
         ensures counts { (n : ℕ) → LineCounts result n n }
         ensures some { result ≡ Ok None → ⊥ }
+        ensures less { OnOk result (lines_left self.new.state < lines_left self.old.state) }
     {
         let outcome = take_line(alloc, &mut self.known, self.block.as_slice());
         match answer_of(self.line, outcome) {

@@ -1,4 +1,4 @@
-use Rattle.std.proofs.Common.{Option, Ok, Err, Some, None, ap, subst, refl, ◌∙◌}
+use Rattle.std.proofs.Common.{Option, Ok, Err, Some, None, arith, ap, subst, refl, ◌∙◌}
 use Rattle.zeek_log.specs.declared.reader.Phase.TheVariants.{Ended}
 use Rattle.zeek_log.specs.declared.step.Step.{Step}
 use Rattle.zeek_log.specs.Answers.{told_of}
@@ -22,6 +22,7 @@ loop-step-preserved g c =
     subst (λ (o : Option Step). LineAnswer c.loop-step.self c.take_next.new.self (g.S.Source.left c.loop-step.source) now (Ok o)) c.in-Ok-None.field-0-is c.in-Ok-None.ensures.next in
     record {
       goes = then_answer c.args.self.now c.loop-step.self c.take_next.new.self _ _ now (Ok None) c.loop-step.invariant.goes none;
+      less = omega (arith, c.in-Ok-None.ensures.less, c.loop-step.invariant.less);
       kept = c.in-Ok-None.ensures.counts ∙ c.loop-step.invariant.kept;
     }
 
