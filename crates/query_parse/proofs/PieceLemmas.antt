@@ -1,5 +1,5 @@
 -- Each piece takes a byte at least, and none is the end; so as many turns as there are bytes are enough.
-use Rattle.std.proofs.Common.{◌≡◌, ℕ, zero, suc, ◌+◌, ◌-◌, ◌<◌, ◌≤◌, Bool, true, false, ◌&&◌, ◌||◌, ◌==◌, cond, if◌then◌else◌, List, [], ◌∷◌, ◌++◌, Option, None, Some, Result, Ok, Err, length, take, drop, drop-drop, length-drop, refl, ap, sym, ◌∙◌, subst, arith}
+use Rattle.std.proofs.Common.{◌≡◌, ℕ, zero, suc, ◌+◌, ◌-◌, ◌<◌, ◌≤◌, Bool, true, false, ◌==◌, cond, if◌then◌else◌, List, [], ◌∷◌, Option, None, Some, Result, Ok, Err, length, take, drop, drop-drop, length-drop, refl, ap, sym, ◌∙◌, subst, arith}
 use Rattle.std.specs.List.{prefix_len}
 use Rattle.vast_value.specs.declared.kind.Elem.{Elem}
 use Rattle.vast_value.specs.declared.value.Value.{Value}
@@ -20,8 +20,9 @@ use Rattle.query_parse.specs.declared.lexeme.Lexeme.TheVariants as lexeme
 use Rattle.query_parse.specs.declared.parser.Parser.{Parser}
 use Rattle.query_parse.specs.declared.texts.Quoted.{Quoted}
 use Rattle.query_parse.specs.declared.tokens.Piece.{Piece}
-use Rattle.query_parse.specs.Lexemes.{is_blank, is_word_byte, begins_literal, is_name, literal_if, literal_or_bad, plain_word, kind_or_plain, kind_picked, word_lexeme}
+use Rattle.query_parse.specs.Lexemes.{is_blank, is_word_byte, begins_literal, is_name, literal_if, literal_or_bad, kind_or_plain, kind_picked, word_lexeme}
 use Rattle.query_parse.specs.Parsing.{is_end, run, next, start, finished, and_then, Goes, Moves, ReadsOn, Reached}
+use Rattle.query_parse.proofs.Ends.{EndsOnce}
 use Rattle.query_parse.specs.Tokens.{Token, piece_of, text_piece, word_piece, word_length, quoted, short_piece, double_piece, is_next, tokens_in, tokens_of}
 
 both : {X : Type 0} (c : Bool) (x x2 y y2 : X) → x ≡ x2 → y ≡ y2 → (if c then x else y) ≡ (if c then x2 else y2)
@@ -245,3 +246,22 @@ pub reached_end : (text : List ℕ) (p : Parser) (at : ℕ) (result : Result Exp
 reached_end text p at (Ok e) all so reached = reading_ends text p at all so ∙ reached
 reached_end text p at (Err (Fault f)) all so reached = reading_ends text p at all so ∙ reached
 reached_end text p at (Err Memory) all so reached = tt
+
+behind_token : (t : Token) (ts : List Token) → is_end t.lexeme ≡ false → EndsOnce ts → EndsOnce (t ∷ ts)
+behind_token t [] none once = absurd once
+behind_token t (u ∷ ts) none once = (none, once)
+
+once_if : (c : Bool) (skipped : List Token) (t : Token) (ts : List Token) → EndsOnce skipped → is_end t.lexeme ≡ false → EndsOnce ts → EndsOnce (if c then skipped else t ∷ ts)
+once_if true skipped t ts once none more = once
+once_if false skipped t ts once none more = behind_token t ts none more
+
+-- the end comes once, as the last token
+pub ends_once : (n at : ℕ) (text : List ℕ) → length text ≤ n → EndsOnce (tokens_in n at text)
+ends_once zero at text room = refl
+ends_once (suc n) at [] room = refl
+ends_once (suc n) at (b ∷ rest) room =
+    let piece = piece_of b rest in
+    let left : length (drop piece.length (b ∷ rest)) ≤ length rest = omega (arith, length-drop piece.length (b ∷ rest), (piece_good b rest).some) in
+    once_if (is_blank b) (tokens_in n (at + 1) rest) (token_at at b rest) (tokens_in n (at + piece.length) (drop piece.length (b ∷ rest)))
+    (ends_once n (at + 1) rest (omega (arith, room))) (piece_good b rest).lexeme
+    (ends_once n (at + piece.length) (drop piece.length (b ∷ rest)) (omega (arith, room, left)))

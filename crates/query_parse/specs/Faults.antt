@@ -1,6 +1,5 @@
 -- Why a text is no query: the leftmost fault.
-use Rattle.std.specs.Prelude.{◌≡◌, ◌≢◌, ℕ, ◌≤◌, ◌<◌, Bool, true, false, if◌then◌else◌, List, [], ◌∷◌, ◌++◌, IsTrue, IsFalse, length, map}
-use Rattle.std.specs.List.{list_all}
+use Rattle.std.specs.Prelude.{◌≡◌, ◌≢◌, ℕ, ◌≤◌, ◌<◌, Bool, true, false, if◌then◌else◌, Option, None, Some, List, [], ◌∷◌, ◌++◌, IsTrue, IsFalse, length, map}
 use Rattle.query_meaning.specs.declared.expr.Test.{Test}
 use Rattle.query_meaning.specs.Agreement.{agrees}
 use Rattle.query_parse.specs.declared.fault.ParseEnd.{ParseEnd}
@@ -26,17 +25,17 @@ pub record Continues (lexemes : List Lexeme) : Type 0 where
   pub more : List Lexeme
   pub spells : or_spelled query ++ lexeme.End ∷ [] ≡ lexemes ++ more
 
--- The whole tests among tokens that a query begins with. In such tokens a pick, a relation and a literal in a row, in
--- this order or turned, are a test.
-abbrev pub tests_in : List Lexeme → List Test
-tests_in (lexeme.Pick pick ∷ (lexeme.Rel rel ∷ (lexeme.Literal literal ∷ more))) = test_of pick rel literal ∷ tests_in more
-tests_in (lexeme.Literal literal ∷ (lexeme.Rel rel ∷ (lexeme.Pick pick ∷ more))) = test_of pick (turned rel) literal ∷ tests_in more
-tests_in (x ∷ more) = tests_in more
-tests_in [] = []
+-- three tokens in a row that are a test, in this order or turned
+abbrev pub test_in : Lexeme → Lexeme → Lexeme → Option Test
+test_in (lexeme.Pick pick) (lexeme.Rel rel) (lexeme.Literal literal) = Some (test_of pick rel literal)
+test_in (lexeme.Literal literal) (lexeme.Rel rel) (lexeme.Pick pick) = Some (test_of pick (turned rel) literal)
+test_in _ _ _ = None
 
--- no whole test among them clashes
-abbrev pub are_clean : List Lexeme → Bool
-are_clean lexemes = list_all agrees (tests_in lexemes)
+-- no whole test among these tokens clashes
+abbrev pub Clean : List Lexeme → Type 0
+Clean lexemes =
+    (before : List Lexeme) (a b c : Lexeme) (after : List Lexeme) (test : Test)
+    → lexemes ≡ before ++ (a ∷ (b ∷ (c ∷ after))) → test_in a b c ≡ Some test → IsTrue (agrees test)
 
 abbrev pub kinds_of : List Token → List Lexeme
 kinds_of tokens = map (λ token. token.lexeme) tokens
@@ -54,7 +53,7 @@ pub record Stops (tokens : List Token) (at : ℕ) (P : List Lexeme → Lexeme �
   pub split : tokens ≡ before ++ token ∷ after
   pub place : token.at ≡ at
   pub good : Begins most_open (kinds_of before)
-  pub clean : IsTrue (are_clean (kinds_of before))
+  pub clean : Clean (kinds_of before)
   pub is : P (kinds_of before) token.lexeme
 
 abbrev pub IsUnexpected : List Lexeme → Lexeme → Type 0
@@ -71,11 +70,11 @@ abbrev pub is_literal : Lexeme → Bool
 is_literal (lexeme.Literal literal) = true
 is_literal _ = false
 
--- the literal of a test of three tokens begins here
-abbrev pub LiteralAt : ℕ → Token → Token → Type 0
-LiteralAt at first third = at ≡ (if is_literal first.lexeme then first.at else third.at)
+-- the literal of a test of three tokens, which begins the test or ends it
+abbrev pub literal_at : Token → Token → ℕ
+literal_at first third = if is_literal first.lexeme then first.at else third.at
 
--- A whole test that clashes, whose literal stands at the place. The tokens before the test go on well.
+-- A whole test that clashes, whose literal stands at the place. The tokens before it, and it, go on well.
 pub record Clashes (tokens : List Token) (at : ℕ) : Type 0 where
   pub before : List Token
   pub first : Token
@@ -85,18 +84,23 @@ pub record Clashes (tokens : List Token) (at : ℕ) : Type 0 where
   pub test : Test
   pub split : tokens ≡ before ++ (first ∷ (second ∷ (third ∷ after)))
   pub good : Begins most_open (kinds_of (before ++ (first ∷ (second ∷ (third ∷ [])))))
-  pub clean : IsTrue (are_clean (kinds_of before))
-  pub whole : tests_in (first.lexeme ∷ (second.lexeme ∷ (third.lexeme ∷ []))) ≡ test ∷ []
+  pub clean : Clean (kinds_of (before ++ (first ∷ (second ∷ []))))
+  pub whole : test_in first.lexeme second.lexeme third.lexeme ≡ Some test
   pub clash : IsFalse (agrees test)
-  pub place : LiteralAt at first third
+  pub place : literal_at first third ≡ at
 
--- The leftmost fault of a text, and its offset. At one place a bad literal stands before what is unexpected.
+-- the leftmost fault among tokens; at one place a bad literal stands before what is unexpected
+abbrev pub FaultIn : List Token → ℕ → QueryWhat → Type 0
+FaultIn tokens at Unexpected = Stops tokens at IsUnexpected
+FaultIn tokens at BadLiteral = Stops tokens at IsBad
+FaultIn tokens at TooDeep = Stops tokens at IsTooDeep
+FaultIn tokens at KindClash = Clashes tokens at
+FaultIn tokens at TooLong = ⊥
+
+-- The leftmost fault of a text, and its offset. A text of more than 65,536 bytes is too long whatever it holds.
 abbrev pub IsFault : List ℕ → ℕ → QueryWhat → Type 0
 IsFault text at TooLong = (65536 < length text) × (at ≡ 65536)
-IsFault text at Unexpected = (length text ≤ 65536) × Stops (tokens_of text) at IsUnexpected
-IsFault text at BadLiteral = (length text ≤ 65536) × Stops (tokens_of text) at IsBad
-IsFault text at TooDeep = (length text ≤ 65536) × Stops (tokens_of text) at IsTooDeep
-IsFault text at KindClash = (length text ≤ 65536) × Clashes (tokens_of text) at
+IsFault text at what = (length text ≤ 65536) × FaultIn (tokens_of text) at what
 
 -- a refusal is the leftmost fault
 abbrev pub Refuses : List ℕ → ParseEnd → Type 0

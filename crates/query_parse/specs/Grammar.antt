@@ -2,13 +2,13 @@
 --
 --     expr = conj { "||" conj }     conj = unit { "&&" unit }     unit = "!" unit | "(" expr ")" | test
 --     test = pick rel literal | literal rel pick
-use Rattle.std.specs.Prelude.{◌≡◌, ℕ, ◌+◌, ◌≤◌, max, Bool, true, ◌&&◌, List, [], ◌∷◌, ◌++◌, IsTrue}
+use Rattle.std.specs.Prelude.{◌≡◌, ℕ, ◌+◌, ◌≤◌, max, Bool, ◌&&◌, List, [], ◌∷◌, ◌++◌, IsTrue}
 use Rattle.query_meaning.specs.declared.expr.Expr.{Expr, roll-Expr}
 use Rattle.query_meaning.specs.declared.expr.Expr.TheOpen as level
 use Rattle.query_meaning.specs.declared.expr.Test.{Test}
 use Rattle.query_meaning.specs.declared.expr.Pick.{Pick}
 use Rattle.query_meaning.specs.declared.expr.Rel.{Rel}
-use Rattle.query_meaning.specs.declared.expr.Rel.TheVariants.{Eq, Ne, Lt, Le, Gt, Ge, Within, Contains}
+use Rattle.query_meaning.specs.declared.expr.Rel.TheVariants.{Lt, Le, Gt, Ge, Within, Contains}
 use Rattle.query_meaning.specs.declared.expr.Literal.{Literal}
 use Rattle.query_meaning.specs.Agreement.{agrees}
 use Rattle.query_parse.specs.declared.lexeme.Lexeme.{Lexeme}

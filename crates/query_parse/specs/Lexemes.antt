@@ -1,18 +1,15 @@
 -- What the tokens of a query are.
-use Rattle.std.specs.Prelude.{ℕ, ◌+◌, ◌*◌, Bool, true, false, not, ◌&&◌, ◌||◌, ◌==◌, if◌then◌else◌, List, [], ◌∷◌, Option, None, Some, length, take, drop, codes, nat_le}
-use Rattle.std.specs.List.{list_all, list_any, prefix_len}
-use Rattle.std.specs.Option.{option_map}
+use Rattle.std.specs.Prelude.{ℕ, Bool, true, false, ◌&&◌, ◌||◌, ◌==◌, if◌then◌else◌, List, [], ◌∷◌, Option, None, Some, codes, nat_le}
+use Rattle.std.specs.List.{list_all, list_any}
 use Rattle.std.specs.Str.{bytes_eq}
 use Rattle.vast_value.specs.declared.kind.Elem.{Elem}
 use Rattle.vast_value.specs.declared.kind.Elem.TheVariants as elem
 use Rattle.vast_value.specs.declared.value.Value.{Value}
 use Rattle.vast_value.specs.declared.value.Value.TheVariants as value
-use Rattle.value_text.specs.Addresses.{is_hexadecimal, digit_value}
-use Rattle.value_text.specs.Escapes.{is_byte_escape}
 use Rattle.value_text.specs.Numbers.{is_digit}
 use Rattle.value_text.specs.Literals.{literal_read}
 use Rattle.query_meaning.specs.declared.expr.Pick.TheVariants.{OfKind, Named, TypeName, EventTime}
-use Rattle.query_meaning.specs.declared.expr.Rel.TheVariants.{Eq, Ne, Lt, Le, Gt, Ge, Within, Contains}
+use Rattle.query_meaning.specs.declared.expr.Rel.TheVariants.{Within, Contains}
 use Rattle.query_meaning.specs.declared.expr.Literal.TheVariants.{Nil, Of}
 use Rattle.query_parse.specs.declared.lexeme.Lexeme.{Lexeme}
 use Rattle.query_parse.specs.declared.lexeme.Lexeme.TheVariants as lexeme

@@ -11,3 +11,6 @@ mod words;
 
 pub use fault::{ParseEnd, QueryFault, QueryWhat};
 pub use query::parse;
+
+#[cfg(test)]
+mod tests;

@@ -1,7 +1,10 @@
 //! From a text to an expression.
-ghost use Rattle.std.specs.Prelude.{◌≡◌, ◌≤◌, ◌<◌, ◌∷◌, length};
+ghost use Rattle.std.specs.Prelude.{◌≡◌, ◌≤◌, ◌<◌, ◌∷◌, length, IfOk, IfErr, MatchResult};
+ghost use Rattle.query_meaning.specs.declared.expr.Expr.{Expr};
+ghost use Rattle.query_parse.specs.Faults.{Refuses};
+ghost use Rattle.query_parse.specs.Grammar.{Reads};
 ghost use Rattle.query_parse.specs.Parsing.{run, start, Reached, ReadsOn, Parses};
-ghost use Rattle.query_parse.specs.Tokens.{tokens_of};
+ghost use Rattle.query_parse.specs.Tokens.{tokens_of, lexemes_of};
 
 use crate::fault::{ParseEnd, QueryWhat};
 use crate::parser::{Parser, fault};
@@ -25,6 +28,9 @@ const LONGEST: usize = 65_536;
 #[tactic(auto, unfolding(crate::specs::Parsing::parsed))]
 pub fn parse(alloc: Global, text: &str) -> Result<Expr, ParseEnd>
     ensures exact { Parses text.now result }
+    ensures reads { IfOk result (λ expr. Reads (lexemes_of text.now) expr) }
+    ensures fault { IfErr result (λ end. Refuses text.now end) }
+    ensures read { (expr : Expr) → length text.now ≤ 65536 → Reads (lexemes_of text.now) expr → MatchResult result (λ e. e ≡ expr) (λ end. end ≡ ParseEnd.Memory) }
 {
     let bytes = text.as_bytes();
     if bytes.len() > LONGEST {

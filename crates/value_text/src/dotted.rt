@@ -115,8 +115,8 @@ fn dotted_at(text: &[u8]) -> Option<u32>
     last_octet(c, text)
 }
 
-#[tactic(auto, using(crate::proofs::OctetLemmas::whole))]
 /// The number of four numbers of one to three digits, each at most 255, with dots between them.
+#[tactic(auto, using(crate::proofs::OctetLemmas::whole))]
 pub(crate) fn dotted_of(text: &[u8]) -> Option<u32>
     ensures { result ≡ dotted_of text.now }
 {

@@ -1,6 +1,5 @@
 //! The groups of an address, with colons between them.
-ghost use Rattle.std.specs.Prelude.{◌≡◌, ◌+◌, ◌-◌, ◌*◌, ◌^◌, ◌<◌, ◌≤◌, if◌then◌else◌, length, replicate, IfSome, Some, None, Option, option_and_then};
-ghost use Rattle.std.specs.Option.{option_map};
+ghost use Rattle.std.specs.Prelude.{◌^◌, ◌<◌, ◌≤◌};
 
 /// Groups that were read: at most eight.
 #[derive(Clone, Copy, Debug)]

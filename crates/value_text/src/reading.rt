@@ -37,46 +37,76 @@ fn copied(alloc: Global, text: &[u8]) -> Result<Bytes, AllocError>
     Ok(copy)
 }
 
-// The value of a kind that a text spells, its escapes being undone.
+// Kinds whose values are large have functions of their own, so that the others need not make room for them.
+#[inline(never)]
 #[tactic(auto, unfolding(crate::specs::Reading::value_read))]
-fn value_of(alloc: Global, elem: Elem, text: &[u8]) -> Result<Value, CellEnd>
-    ensures value { Gives result (value_read elem text.now) }
-    ensures bounded { length text.now ≤ 2 ^ 24 → IfOk result (λ value. IsTrue (is_bounded value)) }
+fn copied_text(alloc: Global, text: &[u8]) -> Result<Cell, CellEnd>
+    ensures value { Gives result (option_map Cell.One (value_read Elem.Text text.now)) }
+    ensures bounded { length text.now ≤ 2 ^ 24 → IfOk result (λ cell. IsTrue (is_small cell)) }
+{
+    Ok(Cell::One(Value::Text(copied(alloc, text)?)))
+}
+
+#[inline(never)]
+#[tactic(auto, unfolding(crate::specs::Reading::value_read))]
+fn copied_name(alloc: Global, text: &[u8]) -> Result<Cell, CellEnd>
+    ensures value { Gives result (option_map Cell.One (value_read Elem.Name text.now)) }
+    ensures bounded { length text.now ≤ 2 ^ 24 → IfOk result (λ cell. IsTrue (is_small cell)) }
+{
+    Ok(Cell::One(Value::Name(copied(alloc, text)?)))
+}
+
+#[inline(never)]
+#[tactic(auto, unfolding(crate::specs::Reading::value_read))]
+fn subnet_one(text: &[u8]) -> Result<Cell, CellEnd>
+    ensures value { Gives result (option_map Cell.One (value_read Elem.Subnet text.now)) }
+    ensures bounded { length text.now ≤ 2 ^ 24 → IfOk result (λ cell. IsTrue (is_small cell)) }
+{
+    match subnet_of(text) {
+        None => Err(CellEnd::BadText),
+        Some(net) => Ok(Cell::One(Value::Subnet(net))),
+    }
+}
+
+// The cell of the value that a text spells, its escapes being undone. The cell is made at once, since a value that is put
+// into a cell later is moved twice.
+#[tactic(auto, unfolding(crate::specs::Reading::value_read))]
+#[inline(always)]
+fn one_of(alloc: Global, elem: Elem, text: &[u8]) -> Result<Cell, CellEnd>
+    ensures value { Gives result (option_map Cell.One (value_read elem text.now)) }
+    ensures bounded { length text.now ≤ 2 ^ 24 → IfOk result (λ cell. IsTrue (is_small cell)) }
 {
     match elem {
         Elem::Bool => match bool_of(text) {
             None => Err(CellEnd::BadText),
-            Some(value) => Ok(Value::Bool(value)),
+            Some(value) => Ok(Cell::One(Value::Bool(value))),
         },
         Elem::Count => match number_up_to(u64::MAX, text) {
             None => Err(CellEnd::BadText),
-            Some(number) => Ok(Value::Count(number)),
+            Some(number) => Ok(Cell::One(Value::Count(number))),
         },
         Elem::Int => match int_of(text) {
             None => Err(CellEnd::BadText),
-            Some(number) => Ok(Value::Int(number)),
+            Some(number) => Ok(Cell::One(Value::Int(number))),
         },
         Elem::Time => match span_of(text) {
             None => Err(CellEnd::BadText),
-            Some(time) => Ok(Value::Time(time)),
+            Some(time) => Ok(Cell::One(Value::Time(time))),
         },
         Elem::Span => match span_of(text) {
             None => Err(CellEnd::BadText),
-            Some(span) => Ok(Value::Span(span)),
+            Some(span) => Ok(Cell::One(Value::Span(span))),
         },
-        Elem::Text => Ok(Value::Text(copied(alloc, text)?)),
-        Elem::Name => Ok(Value::Name(copied(alloc, text)?)),
+        Elem::Text => copied_text(alloc, text),
+        Elem::Name => copied_name(alloc, text),
         Elem::Addr => match address_of(text) {
             None => Err(CellEnd::BadText),
-            Some(address) => Ok(Value::Addr(address)),
+            Some(address) => Ok(Cell::One(Value::Addr(address))),
         },
-        Elem::Subnet => match subnet_of(text) {
-            None => Err(CellEnd::BadText),
-            Some(net) => Ok(Value::Subnet(net)),
-        },
+        Elem::Subnet => subnet_one(text),
         Elem::Port => match number_up_to(u16::MAX as u64, text) {
             None => Err(CellEnd::BadText),
-            Some(number) => Ok(Value::Port(number as u16)),
+            Some(number) => Ok(Cell::One(Value::Port(number as u16))),
         },
     }
 }
@@ -91,7 +121,11 @@ pub fn read_value(alloc: Global, elem: Elem, text: &[u8]) -> Result<Value, CellE
     ensures value { IfOk result (λ value. value_read elem text.now ≡ Some value) }
     ensures bad { IsErrOf result CellEnd.BadText → value_read elem text.now ≡ None }
 {
-    value_of(alloc, elem, text)
+    match one_of(alloc, elem, text) {
+        Err(end) => Err(end),
+        Ok(Cell::One(value)) => Ok(value),
+        Ok(_) => Err(CellEnd::BadText),
+    }
 }
 
 #[inline]
@@ -117,39 +151,61 @@ fn text_read(alloc: Global, marks: &Marks, raw: &[u8]) -> Result<Bytes, AllocErr
 }
 
 // A value whose escapes are to be undone.
-fn undone_read(alloc: Global, elem: Elem, raw: &[u8]) -> Result<Value, CellEnd>
-    ensures value { Gives result (value_read elem (unescaped raw.now)) }
-    ensures bounded { length raw.now ≤ 2 ^ 24 → IfOk result (λ value. IsTrue (is_bounded value)) }
+#[inline(never)]
+fn undone_read(alloc: Global, elem: Elem, raw: &[u8]) -> Result<Cell, CellEnd>
+    ensures value { Gives result (option_map Cell.One (value_read elem (unescaped raw.now))) }
+    ensures bounded { length raw.now ≤ 2 ^ 24 → IfOk result (λ cell. IsTrue (is_small cell)) }
 {
     let text = unescape(alloc, raw)?;
-    value_of(alloc, elem, text.as_slice())
+    one_of(alloc, elem, text.as_slice())
 }
 
 // A value that has escapes or none.
 #[tactic(auto, using(crate::proofs::EscapeLemmas::plain_stays))]
-fn escaped_read(alloc: Global, elem: Elem, raw: &[u8]) -> Result<Value, CellEnd>
-    ensures value { Gives result (value_read elem (unescaped raw.now)) }
-    ensures bounded { length raw.now ≤ 2 ^ 24 → IfOk result (λ value. IsTrue (is_bounded value)) }
+#[inline(always)]
+fn escaped_read(alloc: Global, elem: Elem, raw: &[u8]) -> Result<Cell, CellEnd>
+    ensures value { Gives result (option_map Cell.One (value_read elem (unescaped raw.now))) }
+    ensures bounded { length raw.now ≤ 2 ^ 24 → IfOk result (λ cell. IsTrue (is_small cell)) }
 {
     if has_backslash(raw) {
         return undone_read(alloc, elem, raw);
     }
-    value_of(alloc, elem, raw)
+    one_of(alloc, elem, raw)
 }
 
-// The value of a text that is not unset.
+#[inline(never)]
 #[tactic(auto, unfolding(crate::specs::Reading::value_read))]
-fn set_read(alloc: Global, elem: Elem, marks: &Marks, raw: &[u8]) -> Result<Value, CellEnd>
-    ensures value { Gives result (set_read marks.now elem raw.now) }
-    ensures bounded { length raw.now ≤ 2 ^ 24 → IfOk result (λ value. IsTrue (is_bounded value)) }
+fn text_one(alloc: Global, marks: &Marks, raw: &[u8]) -> Result<Cell, CellEnd>
+    ensures value { Gives result (option_map Cell.One (set_read marks.now Elem.Text raw.now)) }
+    ensures bounded { length raw.now ≤ 2 ^ 24 → IfOk result (λ cell. IsTrue (is_small cell)) }
+{
+    Ok(Cell::One(Value::Text(text_read(alloc, marks, raw)?)))
+}
+
+#[inline(never)]
+#[tactic(auto, unfolding(crate::specs::Reading::value_read))]
+fn name_one(alloc: Global, marks: &Marks, raw: &[u8]) -> Result<Cell, CellEnd>
+    ensures value { Gives result (option_map Cell.One (set_read marks.now Elem.Name raw.now)) }
+    ensures bounded { length raw.now ≤ 2 ^ 24 → IfOk result (λ cell. IsTrue (is_small cell)) }
+{
+    Ok(Cell::One(Value::Name(text_read(alloc, marks, raw)?)))
+}
+
+// The cell of a value that is not unset.
+#[tactic(auto, unfolding(crate::specs::Reading::value_read))]
+#[inline(always)]
+fn one_read(alloc: Global, elem: Elem, marks: &Marks, raw: &[u8]) -> Result<Cell, CellEnd>
+    ensures value { Gives result (option_map Cell.One (set_read marks.now elem raw.now)) }
+    ensures bounded { length raw.now ≤ 2 ^ 24 → IfOk result (λ cell. IsTrue (is_small cell)) }
 {
     match elem {
-        Elem::Text => Ok(Value::Text(text_read(alloc, marks, raw)?)),
-        Elem::Name => Ok(Value::Name(text_read(alloc, marks, raw)?)),
+        Elem::Text => text_one(alloc, marks, raw),
+        Elem::Name => name_one(alloc, marks, raw),
         _ => escaped_read(alloc, elem, raw),
     }
 }
 
+#[inline(never)]
 fn element_read(
     alloc: Global,
     elem: Elem,
@@ -162,9 +218,10 @@ fn element_read(
     if equals(raw, &marks.unset) {
         return Ok(None);
     }
-    match set_read(alloc, elem, marks, raw) {
+    match one_read(alloc, elem, marks, raw) {
         Err(end) => Err(end),
-        Ok(value) => Ok(Some(value)),
+        Ok(Cell::One(value)) => Ok(Some(value)),
+        Ok(_) => Err(CellEnd::BadText),
     }
 }
 
@@ -211,6 +268,7 @@ fn elements_read(alloc: Global, elem: Elem, marks: &Marks, raw: &[u8]) -> Result
     }
 }
 
+#[inline(never)]
 fn container_read(alloc: Global, elem: Elem, marks: &Marks, raw: &[u8]) -> Result<Cell, CellEnd>
     ensures value { Gives result (container_read marks.now elem raw.now) }
     ensures small { length raw.now < 2 ^ 24 → IfOk result (λ cell. IsTrue (is_small cell)) }
@@ -224,20 +282,19 @@ fn container_read(alloc: Global, elem: Elem, marks: &Marks, raw: &[u8]) -> Resul
     }
 }
 
+#[inline(always)]
 fn kind_read(alloc: Global, kind: Kind, marks: &Marks, raw: &[u8]) -> Result<Cell, CellEnd>
     ensures value { Gives result (kind_read marks.now kind raw.now) }
     ensures small { length raw.now < 2 ^ 24 → IfOk result (λ cell. IsTrue (is_small cell)) }
 {
     match kind {
-        Kind::One(elem) => match set_read(alloc, elem, marks, raw) {
-            Err(end) => Err(end),
-            Ok(value) => Ok(Cell::One(value)),
-        },
+        Kind::One(elem) => one_read(alloc, elem, marks, raw),
         Kind::SetOf(elem) => container_read(alloc, elem, marks, raw),
         Kind::VecOf(elem) => container_read(alloc, elem, marks, raw),
     }
 }
 
+#[inline(always)]
 #[tactic(auto, unfolding(crate::specs::Reading::cell_read))]
 fn cell_read(alloc: Global, kind: Kind, marks: &Marks, raw: &[u8]) -> Result<Cell, CellEnd>
     ensures value { Gives result (cell_read marks.now kind raw.now) }
@@ -255,6 +312,9 @@ fn cell_read(alloc: Global, kind: Kind, marks: &Marks, raw: &[u8]) -> Result<Cel
 /// or the empty string or enum. Any other container is cut at each set separator into elements, of which one equal to the
 /// unset text is unset, and one equal to the empty text is the empty string or enum. All else has its escapes undone
 /// and is read by [`read_value`].
+///
+/// Fewer than 2^24 raw bytes give texts and containers that a row may hold; 2^24 set separators would give one element too
+/// many.
 pub fn read_cell(alloc: Global, kind: Kind, marks: &Marks, raw: &[u8]) -> Result<Cell, CellEnd>
     ensures cell { IfOk result (λ cell. cell_read marks.now kind raw.now ≡ Some cell) }
     ensures bad { IsErrOf result CellEnd.BadText → cell_read marks.now kind raw.now ≡ None }

@@ -65,8 +65,8 @@ fn push_dotted(address: u32, out: &mut Bytes) -> Result<(), AllocError>
     ensures written { OnOk result (out.new ≡ out.old ++ dotted_text address) }
     ensures front { OnErr result (BeginsWith out.new out.old) }
 {
-    push_two_octets(address >> 16, out)?;
-    out.push(b'.')?;
+    push_octet_and_dot(address >> 24, out)?;
+    push_octet_and_dot(address >> 16, out)?;
     push_two_octets(address, out)
 }
 
@@ -76,9 +76,26 @@ fn push_two_octets(number: u32, out: &mut Bytes) -> Result<(), AllocError>
     ensures written { OnOk result (out.new ≡ out.old ++ (decimal (number / 2 ^ 8 % 256) ++ 46 ∷ decimal (number % 256))) }
     ensures front { OnErr result (BeginsWith out.new out.old) }
 {
-    push_octet(number >> 8, out)?;
-    out.push(b'.')?;
+    push_octet_and_dot(number >> 8, out)?;
     push_octet(number, out)
+}
+
+// The last octet of a number, and a dot behind it.
+#[tactic(auto, using(crate::proofs::WritingOctets::octet_digits))]
+fn push_octet_and_dot(number: u32, out: &mut Bytes) -> Result<(), AllocError>
+    ensures written { OnOk result (out.new ≡ out.old ++ (decimal (number % 256) ++ 46 ∷ [])) }
+    ensures kept { OnErr result (out.new ≡ out.old) }
+{
+    let octet = number % 256;
+    let last = decimal_digit(octet);
+    if octet < 10 {
+        return out.append(&[last, b'.']);
+    }
+    let middle = decimal_digit(octet / 10);
+    if octet < 100 {
+        return out.append(&[middle, last, b'.']);
+    }
+    out.append(&[decimal_digit(octet / 100), middle, last, b'.'])
 }
 
 // The last octet of a number, which has one to three digits.
@@ -88,17 +105,15 @@ fn push_octet(number: u32, out: &mut Bytes) -> Result<(), AllocError>
     ensures kept { OnErr result (out.new ≡ out.old) }
 {
     let octet = number % 256;
+    let last = decimal_digit(octet);
     if octet < 10 {
-        return out.push(decimal_digit(octet));
+        return out.push(last);
     }
+    let middle = decimal_digit(octet / 10);
     if octet < 100 {
-        return out.append(&[decimal_digit(octet / 10), decimal_digit(octet)]);
+        return out.append(&[middle, last]);
     }
-    out.append(&[
-        decimal_digit(octet / 100),
-        decimal_digit(octet / 10),
-        decimal_digit(octet),
-    ])
+    out.append(&[decimal_digit(octet / 100), middle, last])
 }
 
 // The last decimal digit of a number.

@@ -1,6 +1,6 @@
-use Rattle.std.proofs.Common.{◌≡◌, ◌+◌, ◌++◌, [], ◌∷◌, ℕ, List, drop, length, sym, ap, ◌∙◌, subst, arith}
+use Rattle.std.proofs.Common.{◌≡◌, ◌+◌, ◌++◌, [], ◌∷◌, ℕ, List, drop, sym, subst, arith}
 use Rattle.query_parse.specs.declared.texts.Taken.{Taken}
-use Rattle.query_parse.specs.Tokens.{quoted, quote_step}
+use Rattle.query_parse.specs.Tokens.{quoted}
 use Rattle.query_parse.proofs.TokenLemmas.{ahead, quoted_more}
 use Rattle.query_parse.proofs.texts.read_quoted.Goals as goal
 

@@ -8,4 +8,4 @@ returns-clause-bounded c = λ few.
     let undone : c.in_ok-text.text ≡ unescaped c.args.raw.now = c.in_ok-text.ensures in
     let long : length c.as_slice.result.now ≡ length (unescaped c.args.raw.now) = ap length (c.as_slice.ensures ∙ undone) in
     let short : length c.as_slice.result.now ≤ 2 ^ 24 = omega (arith, length-unescaped c.args.raw.now) in
-    c.value_of.ensures.bounded short
+    c.one_of.ensures.bounded short
