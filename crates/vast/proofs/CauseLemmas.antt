@@ -1,5 +1,5 @@
 -- The causes of the statuses.
-use Rattle.std.proofs.Common.{◌≡◌, ◌≢◌, ℕ, zero, suc, ◌+◌, ◌-◌, ◌^◌, ◌≤◌, ◌<◌, Bool, true, false, List, [], ◌∷◌, ◌++◌, Option, None, Some, Result, Ok, Err, IfSome, IfNone, IsSome, IsSomeAnd, length, take, refl, ap, sym, ◌∙◌, subst, nat_lt, nat_le, arith}
+use Rattle.std.proofs.Common.{◌≡◌, ◌≢◌, ℕ, zero, suc, ◌-◌, Bool, false, List, Option, None, Some, Result, Ok, Err, IfSome, IfNone, IsSome, IsSomeAnd, length, take, refl, ap, sym, ◌∙◌, subst, nat_lt, nat_le, arith}
 use Rattle.std.proofs.lemmas.List.{length-take}
 use Rattle.query_meaning.specs.declared.expr.Expr.{Expr}
 use Rattle.query_parse.specs.declared.fault.QueryFault.{QueryFault}
@@ -7,12 +7,11 @@ use Rattle.query_parse.specs.Parsing.{parsed}
 use Rattle.vast_io.specs.Causes.{Rose}
 use Rattle.zeek_log.specs.declared.step.ZeekEnd.{ZeekEnd}
 use Rattle.zeek_log.specs.declared.step.ZeekEnd.TheVariants as end
-use Rattle.zeek_log.specs.Lines.{AllThere}
-use Rattle.zeek_log.specs.Steps.{Steps, steps_of, steps_of_source}
+use Rattle.zeek_log.specs.Steps.{Steps, steps_of_source}
 use Rattle.zeek_log.specs.Taking.{most_bytes}
 use Rattle.vast.specs.declared.status.Status.{Status}
 use Rattle.vast.specs.declared.status.Status.TheVariants as status
-use Rattle.vast.specs.Causes.{Exactly, TellsText, TellsOf, TellsScan, TellsCommand, IsRefusal, IsRefused, Refuses, SaysUnopened, SaysRefused, SaysEarly, Says, WasOpened, IsExpr, IsSound, IsWhole, HasWhole, IsDone, Completes, Does, IsOfFile}
+use Rattle.vast.specs.Causes.{TellsText, TellsOf, TellsScan, TellsCommand, IsRefusal, IsRefused, Refuses, SaysUnopened, SaysRefused, SaysEarly, Says, WasOpened, IsExpr, IsSound, IsWhole, HasWhole, Completes, Does, IsOfFile}
 use Rattle.vast.specs.Texts.{scan_text, check_text, usage_line}
 use Rattle.vast.specs.Words.{Wanted, Scan, Check, file_of}
 use Rattle.vast.proofs.GoingLemmas.{below_most, below_bound}
@@ -59,8 +58,8 @@ module _ {S : Type 0} (left_of : S → Option (List ℕ)) (faults_of : S → ℕ
     early = subst (λ (r : Result Expr QueryFault). SaysRefused r w w' before now) (sym is) says;
   }
 
-  at : (command : Option Wanted) (s t : Status) (rest none : Option S) → s ≡ t → rest ≡ none → DoesSo command t none → DoesSo command s rest
-  at command s t rest none is empty does = subst (λ (x : Status). DoesSo command x rest) (sym is) (subst (λ (r : Option S). DoesSo command t r) (sym empty) does)
+  at : (command : Option Wanted) (s t : Status) (rest other : Option S) → s ≡ t → rest ≡ other → DoesSo command t other → DoesSo command s rest
+  at command s t rest other is empty does = subst (λ (x : Status). DoesSo command x rest) (sym is) (subst (λ (r : Option S). DoesSo command t r) (sym empty) does)
 
   pub does_usage : (s : Status) (rest : Option S) → s ≡ status.Usage → rest ≡ None → Says w w' before now usage_line → DoesSo None s rest
   does_usage s rest is empty says = at None s status.Usage rest None is empty (usage_so says)

@@ -1,23 +1,22 @@
 -- How far a report of a log has come.
-use Rattle.std.proofs.Common.{◌≡◌, ◌≢◌, ℕ, zero, suc, ◌+◌, ◌-◌, ◌^◌, ◌≤◌, ◌<◌, Bool, true, false, List, [], ◌∷◌, ◌++◌, Option, None, Some, Result, Ok, Err, IfSome, IsSomeAnd, length, take, refl, ap, sym, ◌∙◌, subst, append_assoc, nat_lt, nat_le, arith, ◌⊎◌, inl, inr}
+use Rattle.std.proofs.Common.{◌≡◌, ◌≢◌, ℕ, ◌+◌, ◌-◌, ◌^◌, ◌<◌, Bool, true, false, List, [], ◌++◌, Option, None, Some, Result, Ok, Err, IfSome, IsSomeAnd, length, take, refl, ap, sym, ◌∙◌, subst, append_assoc, nat_lt, nat_le, arith, inl, inr}
 use Rattle.std.proofs.lemmas.Bool.Decides.{nat_tests}
 use Rattle.std.proofs.lemmas.List.{append-nil, length-append}
 use Rattle.std.proofs.Math.Seq.{take-append_seam}
 use Rattle.std.specs.Io.KnownBytes.{append_known, prepend_known}
 use Rattle.vast_io.specs.Causes.{Rose}
-use Rattle.vast_io.specs.Told.{WritesPart, IsAtEnd}
-use Rattle.vast_io.proofs.Writing.{part_none, part_all, part_behind, part_longer, append_known-append, append_known-nil}
+use Rattle.vast_io.specs.Told.{WritesPart}
+use Rattle.vast_io.proofs.Writing.{part_all, part_behind, part_longer, append_known-append, append_known-nil}
 use Rattle.vast_value.specs.Headings.{Heading}
 use Rattle.zeek_log.specs.declared.step.Step.{Step}
 use Rattle.zeek_log.specs.declared.step.Step.TheVariants as step
 use Rattle.zeek_log.specs.declared.step.ZeekEnd.{ZeekEnd}
 use Rattle.zeek_log.specs.declared.step.ZeekEnd.TheVariants as end
-use Rattle.zeek_log.specs.declared.fault.ZeekFault.{ZeekFault}
 use Rattle.zeek_log.specs.Heads.{Told, opening}
 use Rattle.zeek_log.specs.Lines.{Stop, AllThere, Failed, AtBound}
-use Rattle.zeek_log.specs.Reader.{State, Reads, Last, Ended, Reading, to_come, come_from, IsMet, MayFollow, IsMetAtLast, StepsOn, EndsAs, Closes, Answer, Follows, CountsBy, CountsOf, heading_told, StepFits}
+use Rattle.zeek_log.specs.Reader.{State, Reads, Last, Ended, Reading, to_come, come_from, IsMet, MayFollow, IsMetAtLast, StepsOn, EndsAs, Closes, Follows, CountsBy, CountsOf, heading_told, StepFits}
 use Rattle.zeek_log.specs.Steps.{Steps, ended, first, step_of, steps_of, steps_of_source, taken_steps}
-use Rattle.zeek_log.specs.Table.{LogStep, Head, Line}
+use Rattle.zeek_log.specs.Table.{LogStep}
 use Rattle.zeek_log.specs.Taking.{most_bytes}
 use Rattle.vast.specs.declared.status.Status.{Status}
 use Rattle.vast.specs.declared.status.Status.TheVariants as status
@@ -280,24 +279,24 @@ module _ (whole behind : Steps → List ℕ) (held : List ℕ) (old : Reading) (
   come_all e took bytes rest stop failed may is source =
       let none : took ++ [] ≡ took = append-nil took in
       come e took [] bytes rest stop failed
-          (subst (λ (t : List ℕ). MayFollow old.state t stop) (sym none) may)
-          (ap (λ (t : List ℕ). to_come old t stop) none ∙ is)
-          (source ∙ ap (λ (t : List ℕ). steps_of t stop) (sym (append-nil (so.took ++ took))))
+      (subst (λ (t : List ℕ). MayFollow old.state t stop) (sym none) may)
+      (ap (λ (t : List ℕ). to_come old t stop) none ∙ is)
+      (source ∙ ap (λ (t : List ℕ). steps_of t stop) (sym (append-nil (so.took ++ took))))
 
   -- the source had no bytes left
   come_there : (e : ZeekEnd) (took bytes rest : List ℕ) → MayFollow old.state took AllThere → bytes ≡ (so.took ++ took) ++ rest → rest ≡ []
       → length (so.took ++ took) < most_bytes → to_come old took AllThere ≡ ended e → EndsSo whole behind held so.sent e (steps_of_source bytes rest false)
   come_there e took bytes rest may split empty few is =
       come_all e took bytes rest AllThere false may is
-          (source_there bytes (so.took ++ took) rest split (below_most (length (so.took ++ took)) few)
-          ∙ ap (λ (t : List ℕ). steps_of ((so.took ++ took) ++ t) AllThere) empty ∙ ap (λ (t : List ℕ). steps_of t AllThere) (append-nil (so.took ++ took)))
+      (source_there bytes (so.took ++ took) rest split (below_most (length (so.took ++ took)) few)
+      ∙ ap (λ (t : List ℕ). steps_of ((so.took ++ took) ++ t) AllThere) empty ∙ ap (λ (t : List ℕ). steps_of t AllThere) (append-nil (so.took ++ took)))
 
   come_anyway : (b : Bool) (e : ZeekEnd) (took bytes rest : List ℕ) → ((more : List ℕ) (stop : Stop) → MayFollow old.state more stop)
       → bytes ≡ (so.took ++ took) ++ rest → nat_le most_bytes (length (so.took ++ took)) ≡ b
       → ((more : List ℕ) (stop : Stop) → to_come old (took ++ more) stop ≡ ended e) → EndsSo whole behind held so.sent e (steps_of_source bytes rest false)
   come_anyway true e took bytes rest any split full is =
       come e took [] bytes rest AtBound false (any (took ++ []) AtBound) (is [] AtBound)
-          (source_full bytes (so.took ++ took) rest split full ∙ ap (λ (t : List ℕ). steps_of t AtBound) (sym (append-nil (so.took ++ took))))
+      (source_full bytes (so.took ++ took) rest split full ∙ ap (λ (t : List ℕ). steps_of t AtBound) (sym (append-nil (so.took ++ took))))
   come_anyway false e took bytes rest any split few is =
       come e took rest bytes rest AllThere false (any (took ++ rest) AllThere) (is rest AllThere) (source_there bytes (so.took ++ took) rest split few)
 
@@ -314,14 +313,14 @@ module _ (whole behind : Steps → List ℕ) (held : List ℕ) (old : Reading) (
       → bytes ≡ (so.took ++ took) ++ rest → nat_le most_bytes (length (so.took ++ took)) ≡ b → WritesPart before written (whole (steps_of_source bytes rest false))
   sent_by true took bytes rest any split full =
       sent_part (steps_of_source bytes rest false) took [] AtBound (any (took ++ []) AtBound)
-          (source_full bytes (so.took ++ took) rest split full ∙ ap (λ (t : List ℕ). steps_of t AtBound) (sym (append-nil (so.took ++ took))))
+      (source_full bytes (so.took ++ took) rest split full ∙ ap (λ (t : List ℕ). steps_of t AtBound) (sym (append-nil (so.took ++ took))))
   sent_by false took bytes rest any split few =
       sent_part (steps_of_source bytes rest false) took rest AllThere (any (took ++ rest) AllThere) (source_there bytes (so.took ++ took) rest split few)
 
   split_is : (bytes took rest : List ℕ) → left ≡ Some bytes → mid ≡ prepend_known took (Some rest) → bytes ≡ (so.took ++ took) ++ rest
   split_is bytes took rest at from =
       some_is bytes (so.took ++ took) rest
-          (sym at ∙ so.left ∙ ap (λ (k : Option (List ℕ)). prepend_known so.took k) from ∙ prepend_known-append (Some rest) so.took took)
+      (sym at ∙ so.left ∙ ap (λ (k : Option (List ℕ)). prepend_known so.took k) from ∙ prepend_known-append (Some rest) so.took took)
 
   not_known : (bytes took : List ℕ) → left ≡ Some bytes → mid ≡ prepend_known took None → ⊥
   not_known bytes took at from =

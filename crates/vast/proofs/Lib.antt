@@ -1,3 +1,4 @@
-mod CauseLemmas
+pub mod CauseLemmas
 pub mod GoingLemmas
 pub mod ReportLemmas
+mod Vectors

@@ -10,11 +10,10 @@ use Rattle.query_meaning.specs.declared.expr.Expr.{Expr}
 use Rattle.query_meaning.specs.Meaning.{holds}
 use Rattle.zeek_log.specs.declared.step.Step.TheVariants as step
 use Rattle.zeek_log.specs.declared.step.ZeekEnd.{ZeekEnd}
-use Rattle.zeek_log.specs.declared.step.ZeekEnd.TheVariants as end
 use Rattle.zeek_log.specs.Steps.{Steps, ended, first}
-use Rattle.zeek_log.specs.Table.{LogStep, Head, Line}
+use Rattle.zeek_log.specs.Table.{Head, Line}
 use Rattle.vast.specs.Reports.{Carries, FitsLast, scan_behind, match_text, heading_or_none, check_behind, counted_text}
-use Rattle.vast.specs.Texts.{Event, Part, events_behind, row_text, line, part_text, parts_of, rows_first, check_text, check_end, scan_end, end_text}
+use Rattle.vast.specs.Texts.{Event, events_behind, row_text, line, part_text, parts_of, rows_first, check_text, check_end, scan_end}
 
 pub fits_layout : (columns : List Column) (row : List Cell) → IsTrue (fits_fields (map field_of columns) row) → IsTrue (fits_columns columns row)
 fits_layout columns row fits = subst (λ (b : Bool). IsTrue b) (fits_fields-map columns row) fits
@@ -42,7 +41,6 @@ scan_line heading expr cells out now is = λ rest.
     ap (λ (t : List ℕ). out ++ t) (scan_first heading expr cells rest)
     ∙ sym (append_assoc out (match_text heading cells expr) (scan_behind heading expr rest))
     ∙ ap (λ (t : List ℕ). t ++ scan_behind heading expr rest) (sym is)
-
 
 -- ---- layouts
 

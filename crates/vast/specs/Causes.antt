@@ -1,5 +1,5 @@
 -- What each status of the program means.
-use Rattle.std.specs.Prelude.{◌≡◌, ◌≢◌, ℕ, ◌-◌, ◌^◌, ◌<◌, nat_lt, List, [], Option, None, Some, Result, Ok, Err, ◌⊎◌, IfSome, IfNone, IsSomeAnd, IsSome, length}
+use Rattle.std.specs.Prelude.{◌≡◌, ◌≢◌, ℕ, ◌-◌, ◌^◌, ◌<◌, nat_lt, List, Option, None, Some, Result, Ok, Err, ◌⊎◌, IfSome, IfNone, IsSomeAnd, IsSome, length}
 use Rattle.std.specs.Io.KnownBytes.{append_known}
 use Rattle.query_meaning.specs.declared.expr.Expr.{Expr}
 use Rattle.query_parse.specs.declared.fault.QueryFault.{QueryFault}

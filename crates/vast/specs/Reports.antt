@@ -7,14 +7,13 @@ use Rattle.vast_value.specs.Headings.{Heading, fits_fields}
 use Rattle.query_meaning.specs.declared.expr.Expr.{Expr}
 use Rattle.zeek_log.specs.declared.step.Step.{Step}
 use Rattle.zeek_log.specs.declared.step.Step.TheVariants as step
-use Rattle.zeek_log.specs.declared.step.ZeekEnd.{ZeekEnd}
 use Rattle.zeek_log.specs.Steps.{Steps, first}
 use Rattle.zeek_log.specs.Table.{LogStep, Head, Line}
 use Rattle.vast.specs.declared.report.WriteEnd.{WriteEnd}
 use Rattle.vast.specs.declared.report.WriteEnd.TheVariants as write
 use Rattle.vast.specs.declared.status.Status.{Status}
 use Rattle.vast.specs.declared.status.Status.TheVariants as status
-use Rattle.vast.specs.Texts.{Event, Part, events_behind, row_text, no_heading, matches_text, scan_end, line, part_text, rows_first, check_text}
+use Rattle.vast.specs.Texts.{events_behind, row_text, no_heading, matches_text, scan_end, line, part_text, rows_first, check_text}
 
 -- a row fits the last heading
 abbrev pub FitsLast : Option Heading → Step → Type 0

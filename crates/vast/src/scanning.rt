@@ -63,12 +63,7 @@ fn push_match(
     }
 }
 
-fn push_if_holds(
-    expr: &Expr,
-    layout: &Layout,
-    row: &Row,
-    out: &mut Bytes,
-) -> Result<(), AllocError>
+fn push_if_holds(expr: &Expr, layout: &Layout, row: &Row, out: &mut Bytes) -> Result<(), AllocError>
     requires { IsTrue (fits_columns layout.now.columns row.now) }
     ensures { OnOk result (out.new ≡ out.old ++ row_match (heading_of layout.now) row.now expr.now) }
 {

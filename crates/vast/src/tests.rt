@@ -29,7 +29,8 @@ const TWO_LAYOUTS: &[u8] =
     b"#path\td\n#fields\ta\n#types\tcount\n1\n2\n#path\te\n#types\tint\n3\n4\n5\nx\n6\n";
 
 // A connection log of 21 columns.
-const CONNECTIONS: &[u8] = b"#separator \\x09\n#set_separator\t,\n#empty_field\t(empty)\n#unset_field\t-\n#path\tconn\n#open\t2011-03-18-19-06-08\n#fields\tts\tuid\tid.orig_h\tid.orig_p\tid.resp_h\tid.resp_p\tproto\tservice\tduration\torig_bytes\tresp_bytes\tconn_state\tlocal_orig\tlocal_resp\tmissed_bytes\thistory\torig_pkts\torig_ip_bytes\tresp_pkts\tresp_ip_bytes\ttunnel_parents\n#types\ttime\tstring\taddr\tport\taddr\tport\tenum\tstring\tinterval\tcount\tcount\tstring\tbool\tbool\tcount\tstring\tcount\tcount\tcount\tcount\tset[string]\n1300475167.096535\tCHhAvVGS1DHFjwGM9\t141.142.220.202\t5353\t224.0.0.251\t5353\tudp\tdns\t-\t-\t-\tS0\t-\t-\t0\tD\t1\t73\t0\t0\t(empty)\n1300475168.853899\tC4J4Th3PJpwUYZZ6gc\t141.142.220.118\t43927\t141.142.2.2\t53\tudp\t-\t0.000435\t38\t89\tSF\t-\t-\t0\tDd\t1\t66\t1\t117\t(empty)\n#close\t2011-03-18-19-06-25\n";
+const CONNECTIONS: &[u8] =
+    b"#separator \\x09\n#set_separator\t,\n#empty_field\t(empty)\n#unset_field\t-\n#path\tconn\n#open\t2011-03-18-19-06-08\n#fields\tts\tuid\tid.orig_h\tid.orig_p\tid.resp_h\tid.resp_p\tproto\tservice\tduration\torig_bytes\tresp_bytes\tconn_state\tlocal_orig\tlocal_resp\tmissed_bytes\thistory\torig_pkts\torig_ip_bytes\tresp_pkts\tresp_ip_bytes\ttunnel_parents\n#types\ttime\tstring\taddr\tport\taddr\tport\tenum\tstring\tinterval\tcount\tcount\tstring\tbool\tbool\tcount\tstring\tcount\tcount\tcount\tcount\tset[string]\n1300475167.096535\tCHhAvVGS1DHFjwGM9\t141.142.220.202\t5353\t224.0.0.251\t5353\tudp\tdns\t-\t-\t-\tS0\t-\t-\t0\tD\t1\t73\t0\t0\t(empty)\n1300475168.853899\tC4J4Th3PJpwUYZZ6gc\t141.142.220.118\t43927\t141.142.2.2\t53\tudp\t-\t0.000435\t38\t89\tSF\t-\t-\t0\tDd\t1\t66\t1\t117\t(empty)\n#close\t2011-03-18-19-06-25\n";
 
 // How the outside is: how many bytes a read gives, and the numbers of its failing openings, reads and writes.
 #[derive(Clone, Copy)]
@@ -209,12 +210,7 @@ fn a_call_that_fails_is_told_by_its_status(rt: HostRuntime) -> Result<(), Fail> 
             read,
             write,
         };
-        let (ended, sink) = done(
-            rt.alloc(),
-            &["scan", "log", "n > 2"],
-            ANN_AND_BOB,
-            &outside,
-        )?;
+        let (ended, sink) = done(rt.alloc(), &["scan", "log", "n > 2"], ANN_AND_BOB, &outside)?;
         assert_eq!(rt; ended, status);
         assert_eq!(rt; sink.bytes(), text);
     }

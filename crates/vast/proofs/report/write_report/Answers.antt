@@ -1,15 +1,11 @@
-use Rattle.std.proofs.Common.{◌≡◌, ℕ, ◌^◌, ◌-◌, ◌++◌, refl, List, Option, Result, Ok, Err, IfOk, subst, sym, ap, ◌∙◌, arith}
+use Rattle.std.proofs.Common.{ℕ, ◌++◌, refl, Option, Err, subst, sym, ap, ◌∙◌, arith}
 use Rattle.vast_io.proofs.Writing.{part_none}
 use Rattle.vast_value.specs.Headings.{Heading}
-use Rattle.zeek_log.specs.declared.step.Step.{Step}
-use Rattle.zeek_log.specs.declared.step.ZeekEnd.{ZeekEnd}
-use Rattle.zeek_log.specs.Reader.{Follows, CountsOf, StepFits, heading_told}
-use Rattle.zeek_log.specs.Steps.{Steps, first, step_of}
-use Rattle.vast.specs.declared.status.Status.{Status}
+use Rattle.zeek_log.specs.Reader.{CountsOf, heading_told}
+use Rattle.zeek_log.specs.Steps.{first, step_of}
 use Rattle.vast.specs.declared.status.Status.TheVariants.{Memory}
-use Rattle.vast.specs.Causes.{TellsOf}
 use Rattle.vast.specs.Reports.{heading_after}
-use Rattle.vast.proofs.GoingLemmas.{Going, Parts, going_next, going_moves, going_part, told_cut, cut_status, IsCut, told_at, step_fits, heading_goes, open_by, step_kept}
+use Rattle.vast.proofs.GoingLemmas.{Parts, going_next, going_moves, going_part, told_cut, cut_status, IsCut, told_at, heading_goes, open_by, step_kept}
 use Rattle.vast.proofs.report.write_report.Goals as goal
 
 pub returns-in-Err-write_step-clause-told : goal.returns-in-Err-write_step-clause-told
