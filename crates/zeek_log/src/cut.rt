@@ -3,7 +3,7 @@ ghost use Rattle.std.specs.Prelude.{◌≡◌, ◌≤◌, ◌+◌, ◌==◌, len
 ghost use Rattle.std.specs.List.{before_first, after_first, position_or_len};
 ghost use Rattle.std.specs.Option.{option_copied};
 ghost use Rattle.memchr.specs.Find.{IsFirstByte, Nowhere, Passes, is_byte};
-ghost use Rattle.zeek_log.specs.Cuts.{SplitsPiece};
+ghost use Rattle.zeek_log.specs.Cuts.{SplitsPiece, has_backslash};
 ghost use Rattle.zeek_log.specs.Lines.{pieces_of};
 
 use memchr::memchr;
@@ -18,6 +18,17 @@ pub fn newline_from(bytes: &[u8], from: usize) -> Option<usize>
     match memchr(b'\n', rest) {
         Some(at) => Some(from + at),
         None => None,
+    }
+}
+
+/// Whether a backslash is among the bytes.
+#[tactic(auto, using(crate::proofs::CutLemmas::backslash_found, crate::proofs::CutLemmas::backslash_none))]
+pub fn has_backslash(text: &[u8]) -> bool
+    ensures { result ≡ has_backslash text.now }
+{
+    match memchr(b'\\', text) {
+        Some(_) => true,
+        None => false,
     }
 }
 
