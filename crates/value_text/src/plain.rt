@@ -4,14 +4,14 @@ ghost use Rattle.std.specs.List.{list_all, list_any};
 ghost use Rattle.std.specs.Option.{option_map};
 ghost use Rattle.std.specs.Str.{bytes_eq};
 ghost use Rattle.vast_value.specs.Fit.{is_small};
-ghost use Rattle.value_text.specs.Reading.{value_read, set_read, cell_read};
+ghost use Rattle.value_text.specs.Reading.{value_read, set_read, container_read, cell_read};
 ghost use Rattle.value_text.specs.Answers.{PutsElement};
 
 use crate::addresses::address_of;
 use crate::end::CellEnd;
 use crate::marks::Marks;
 use crate::numbers::{number_up_to, span_of};
-use crate::reading::{bool_of, copied, equals, one_read, read_cell};
+use crate::reading::{bool_of, container_read, copied, equals, one_read, read_cell};
 use std::alloc::{AllocError, Global};
 use vast_value::{Bytes, Cell, Elem, Kind, Row, Value};
 
@@ -112,6 +112,24 @@ fn push_one(
     }
 }
 
+// Puts a container that is not unset behind the cells of a row.
+#[inline(never)]
+fn push_container(
+    alloc: Global,
+    elem: Elem,
+    marks: &Marks,
+    raw: &[u8],
+    row: &mut Row,
+) -> Result<(), CellEnd>
+    ensures value { PutsElement result row.old row.new (container_read marks.now elem raw.now) }
+    ensures small { length raw.now < 2 ^ 24 → list_all is_small row.old ≡ true → OnOk result (list_all is_small row.new ≡ true) }
+{
+    match container_read(alloc, elem, marks, raw) {
+        Err(end) => Err(end),
+        Ok(cell) => Ok(row.push(cell)?),
+    }
+}
+
 // Puts a cell that has escapes or none behind the cells of a row.
 #[inline(never)]
 pub(crate) fn push_read_cell(
@@ -154,6 +172,7 @@ pub fn push_cell(
     }
     match kind {
         Kind::One(elem) => push_one(alloc, elem, marks, raw, row),
-        _ => push_read_cell(alloc, kind, marks, raw, row),
+        Kind::SetOf(elem) => push_container(alloc, elem, marks, raw, row),
+        Kind::VecOf(elem) => push_container(alloc, elem, marks, raw, row),
     }
 }

@@ -274,7 +274,12 @@ fn elements_read(alloc: Global, elem: Elem, marks: &Marks, raw: &[u8]) -> Result
 }
 
 #[inline(never)]
-fn container_read(alloc: Global, elem: Elem, marks: &Marks, raw: &[u8]) -> Result<Cell, CellEnd>
+pub(crate) fn container_read(
+    alloc: Global,
+    elem: Elem,
+    marks: &Marks,
+    raw: &[u8],
+) -> Result<Cell, CellEnd>
     ensures value { Gives result (container_read marks.now elem raw.now) }
     ensures small { length raw.now < 2 ^ 24 → IfOk result (λ cell. IsTrue (is_small cell)) }
 {
