@@ -6,6 +6,7 @@ ghost use Rattle.memchr.specs.Find.{IsFirstByte, Nowhere, Passes, is_byte};
 ghost use Rattle.zeek_log.specs.Cuts.{SplitsPiece, has_backslash};
 ghost use Rattle.zeek_log.specs.Lines.{pieces_of};
 
+use crate::near::first_near;
 use memchr::memchr;
 
 /// The place of the first newline, where none stands before `from`.
@@ -36,7 +37,7 @@ pub fn has_backslash(text: &[u8]) -> bool
 pub fn split_piece(separator: u8, text: &[u8]) -> (&[u8], Option<&[u8]>)
     ensures { SplitsPiece separator text.now result.0.now (option_copied result.1) }
 {
-    let Some(at) = memchr(separator, text) else {
+    let Some(at) = first_near(separator, text) else {
         return (text, None);
     };
     let (piece, behind) = text.split_at(at);
