@@ -193,7 +193,7 @@ cell_by : (k : Kind) (t : Bool) (o : Option Cell) (x : Cell) → (t ≡ false �
 cell_by k true o x h eq = let p : cell.Unset ≡ x = cc in subst (λ (y : Cell). has_kind y k ≡ true) p (unset_kind k)
 cell_by k false o x h eq = h refl eq
 
-cell_kind : (marks : Marks) (k : Kind) (raw : List ℕ) (x : Cell) → cell_read marks k raw ≡ Some x → has_kind x k ≡ true
+pub cell_kind : (marks : Marks) (k : Kind) (raw : List ℕ) (x : Cell) → cell_read marks k raw ≡ Some x → has_kind x k ≡ true
 unfolding cell_read
 cell_kind marks k raw x eq = cell_by k (bytes_eq raw marks.unset) (kind_read marks k raw) x (of_kind marks k raw x) eq
 

@@ -9,6 +9,7 @@ pub mod KindLemmas
 pub mod NetLemmas
 pub mod NumberLemmas
 pub mod OctetLemmas
+pub mod PlainLemmas
 pub mod WritingAddresses
 pub mod WritingBare
 pub mod WritingCells

@@ -17,7 +17,7 @@ use crate::numbers::{behind_one, first_at, int_of, number_up_to, span_of};
 use std::alloc::{AllocError, Global};
 use vast_value::{Bytes, Cell, Cells, Elem, Kind, Value};
 
-fn bool_of(text: &[u8]) -> Option<bool>
+pub(crate) fn bool_of(text: &[u8]) -> Option<bool>
     ensures { result ≡ bool_of text.now }
 {
     if text == b"T".as_slice() {
@@ -29,7 +29,7 @@ fn bool_of(text: &[u8]) -> Option<bool>
     None
 }
 
-fn copied(alloc: Global, text: &[u8]) -> Result<Bytes, AllocError>
+pub(crate) fn copied(alloc: Global, text: &[u8]) -> Result<Bytes, AllocError>
     ensures { IfOk result (λ copy. copy ≡ text.now) }
 {
     let mut copy = Bytes::new(alloc);
@@ -129,7 +129,7 @@ pub fn read_value(alloc: Global, elem: Elem, text: &[u8]) -> Result<Value, CellE
 }
 
 #[inline]
-fn equals(raw: &[u8], mark: &Bytes) -> bool
+pub(crate) fn equals(raw: &[u8], mark: &Bytes) -> bool
     ensures { result ≡ bytes_eq raw.now mark.now }
 {
     let mark = mark.as_slice();
@@ -194,7 +194,12 @@ fn name_one(alloc: Global, marks: &Marks, raw: &[u8]) -> Result<Cell, CellEnd>
 // The cell of a value that is not unset.
 #[tactic(auto, unfolding(crate::specs::Reading::value_read))]
 #[inline(always)]
-fn one_read(alloc: Global, elem: Elem, marks: &Marks, raw: &[u8]) -> Result<Cell, CellEnd>
+pub(crate) fn one_read(
+    alloc: Global,
+    elem: Elem,
+    marks: &Marks,
+    raw: &[u8],
+) -> Result<Cell, CellEnd>
     ensures value { Gives result (option_map Cell.One (set_read marks.now elem raw.now)) }
     ensures bounded { length raw.now ≤ 2 ^ 24 → IfOk result (λ cell. IsTrue (is_small cell)) }
 {
@@ -269,7 +274,12 @@ fn elements_read(alloc: Global, elem: Elem, marks: &Marks, raw: &[u8]) -> Result
 }
 
 #[inline(never)]
-fn container_read(alloc: Global, elem: Elem, marks: &Marks, raw: &[u8]) -> Result<Cell, CellEnd>
+pub(crate) fn container_read(
+    alloc: Global,
+    elem: Elem,
+    marks: &Marks,
+    raw: &[u8],
+) -> Result<Cell, CellEnd>
     ensures value { Gives result (container_read marks.now elem raw.now) }
     ensures small { length raw.now < 2 ^ 24 → IfOk result (λ cell. IsTrue (is_small cell)) }
 {

@@ -47,7 +47,20 @@ impl<T: Drop> Seq<T> {
     }
 
     /// Puts an item behind the others.
+    #[inline(always)]
     pub fn push(&mut self, item: T) -> Result<(), AllocError>
+        ensures ok { OnOk result (self.new ≡ self.old ++ item ∷ []) }
+        ensures err { OnErr result (self.new ≡ self.old) }
+    {
+        if self.items.len() < self.items.capacity() {
+            self.items.push_reserved(item);
+            return Ok(());
+        }
+        self.push_with_growth(item)
+    }
+
+    #[inline(never)]
+    fn push_with_growth(&mut self, item: T) -> Result<(), AllocError>
         ensures ok { OnOk result (self.new ≡ self.old ++ item ∷ []) }
         ensures err { OnErr result (self.new ≡ self.old) }
     {

@@ -1,13 +1,13 @@
 -- The first piece of a text, by the first separator.
-use Rattle.std.proofs.Common.{◌≡◌, ℕ, zero, suc, ◌+◌, ◌-◌, ◌<◌, ◌≤◌, ◌==◌, Bool, true, false, List, [], ◌∷◌, None, Some, length, take, drop, get_or, refl, ap, sym, ◌∙◌, subst, add-one, arith, cond}
+use Rattle.std.proofs.Common.{◌≡◌, ℕ, zero, suc, ◌+◌, ◌-◌, ◌<◌, ◌≤◌, ◌==◌, Bool, true, false, ◌||◌, List, [], ◌∷◌, None, Some, length, take, drop, get_or, refl, ap, sym, ◌∙◌, subst, add-one, arith, cond}
 use Rattle.std.proofs.lemmas.Bool.Decides.{nat_tests}
-use Rattle.std.specs.List.{slice_split, onto_first, position_or_len}
+use Rattle.std.specs.List.{slice_split, onto_first, position_or_len, list_any}
 use Rattle.std.proofs.lemmas.List.Sums.{position_or_len_is}
 use Rattle.std.proofs.lemmas.List.{length-take, length-drop, drop-drop, get_or-drop}
 use Rattle.memchr.proofs.lemmas.FindLemmas.{Nowhere-then}
 use Rattle.memchr.specs.Find.{IsFirstByte, Nowhere, Passes, is_byte}
 use Rattle.vast_value.specs.Layouts.{is_empty}
-use Rattle.zeek_log.specs.Cuts.{SplitsPiece}
+use Rattle.zeek_log.specs.Cuts.{SplitsPiece, has_backslash}
 use Rattle.zeek_log.specs.Lines.{pieces_of}
 
 pub not_true : (b : Bool) → ¬ (b ≡ true) → b ≡ false
@@ -33,6 +33,52 @@ split_none p (x ∷ xs) none =
     let rest : slice_split p xs ≡ xs ∷ [] = split_none p xs (λ j h. none (suc j) (omega arith)) in
     rw (no, rest) refl
 
+left_none : (a b : Bool) → (a || b) ≡ false → a ≡ false
+left_none true b none = none
+left_none false b none = refl
+
+right_none : (a b : Bool) → (a || b) ≡ false → b ≡ false
+right_none true b none = absurd cc
+right_none false b none = none
+
+or_true : (b : Bool) → (b || true) ≡ true
+or_true true = refl
+or_true false = refl
+
+none_taken : (p : ℕ → Bool) (n : ℕ) (xs : List ℕ) → list_any p xs ≡ false → list_any p (take n xs) ≡ false
+none_taken p zero xs none = refl
+none_taken p (suc n) [] none = refl
+none_taken p (suc n) (x ∷ xs) none =
+    let no : p x ≡ false = left_none (p x) (list_any p xs) none in
+    let rest : list_any p (take n xs) ≡ false = none_taken p n xs (right_none (p x) (list_any p xs) none) in
+    rw (no, rest) refl
+
+none_dropped : (p : ℕ → Bool) (n : ℕ) (xs : List ℕ) → list_any p xs ≡ false → list_any p (drop n xs) ≡ false
+none_dropped p zero xs none = none
+none_dropped p (suc n) [] none = refl
+none_dropped p (suc n) (x ∷ xs) none = none_dropped p n xs (right_none (p x) (list_any p xs) none)
+
+none_passes : (p : ℕ → Bool) (xs : List ℕ) → ((j : ℕ) → j < length xs → ¬ (p (get_or xs j 0) ≡ true)) → list_any p xs ≡ false
+none_passes p [] none = refl
+none_passes p (x ∷ xs) none =
+    let no : p x ≡ false = not_true (p x) (none 0 (omega arith)) in
+    let rest : list_any p xs ≡ false = none_passes p xs (λ j h. none (suc j) (omega arith)) in
+    rw (no, rest) refl
+
+one_passes : (p : ℕ → Bool) (xs : List ℕ) (k : ℕ) → k < length xs → p (get_or xs k 0) ≡ true → list_any p xs ≡ true
+one_passes p [] k below here = absurd (omega arith)
+one_passes p (x ∷ xs) zero below here = rw here refl
+one_passes p (x ∷ xs) (suc k) below here =
+    let rest : list_any p xs ≡ true = one_passes p xs k (omega arith) here in
+    rw rest (or_true (p x))
+
+-- whether a backslash was found
+pub backslash_found : (text : List ℕ) (k : ℕ) → IsFirstByte (is_byte 92) text (Some k) → true ≡ has_backslash text
+backslash_found text k first = sym (one_passes (is_byte 92) text k first.0.high first.1)
+
+pub backslash_none : (text : List ℕ) → IsFirstByte (is_byte 92) text None → false ≡ has_backslash text
+backslash_none text none = sym (none_passes (is_byte 92) text (λ j h. none j (omega arith) h))
+
 dropped_more : (xs behind rest : List ℕ) (k : ℕ) → behind ≡ drop k xs → rest ≡ drop 1 behind → rest ≡ drop (suc k) xs
 dropped_more xs behind rest k back next =
     next ∙ ap (λ (t : List ℕ). drop 1 t) back ∙ drop-drop 1 k xs ∙ ap (λ (n : ℕ). drop n xs) (add-one k)
@@ -42,6 +88,8 @@ splits_piece s text k first = record {
   pieces = split_first (is_byte s) text k first.0.high (λ j h. first.0.before j (omega arith) h) first.1;
   shorter = omega (arith, first.0.high, length-drop (suc k) text);
   within = omega (arith, length-take k text);
+  plain = none_taken (is_byte 92) k text;
+  plain_left = none_dropped (is_byte 92) (suc k) text;
 }
 
 pub splits_piece_at : (s : ℕ) (text piece behind rest : List ℕ) (k : ℕ) → IsFirstByte (is_byte s) text (Some k)
@@ -56,6 +104,8 @@ splits_only_at s text none = record {
   pieces = split_none (is_byte s) text (λ j h. none j (omega arith) h);
   shorter = omega arith;
   within = omega arith;
+  plain = λ none. none;
+  plain_left = λ none. refl;
 }
 
 onto_first_some : (x : ℕ) (xs : List (List ℕ)) → is_empty (onto_first x xs) ≡ false

@@ -1,13 +1,14 @@
 -- Pieces of a line, read one by one: what is still to be read stands ahead of what was.
-use Rattle.std.proofs.Common.{◌≡◌, ℕ, zero, suc, ◌+◌, ◌<◌, ◌≤◌, ◌^◌, ◌==◌, true, false, List, [], ◌∷◌, ◌++◌, Option, None, Some, Result, Ok, Err, length, take, drop, get_or, map, refl, ap, sym, ◌∙◌, add-one, arith, append_assoc, drop-cons, is_some, is_none, IsOkAnd, Bor}
-use Rattle.std.specs.Option.{option_copied}
+use Rattle.std.proofs.Common.{◌≡◌, ℕ, zero, suc, ◌+◌, ◌<◌, ◌≤◌, ◌^◌, ◌==◌, ◌&&◌, true, false, List, [], ◌∷◌, ◌++◌, Option, None, Some, Result, Ok, Err, length, take, drop, get_or, map, refl, ap, sym, ◌∙◌, add-one, arith, append_assoc, drop-cons, is_some, is_none, IsOkAnd, Bor}
+use Rattle.std.specs.Option.{option_copied, option_map}
 use Rattle.std.proofs.lemmas.Bool.{and_parts, leb-true, ne_eqb}
 use Rattle.std.specs.List.{list_all}
 use Rattle.std.proofs.lemmas.List.{append-nil, take_more, length-map}
+use Rattle.std.proofs.lemmas.List.Folds.{list_all-append}
 use Rattle.vast_value.specs.declared.cell.Cell.{Cell}
 use Rattle.vast_value.specs.declared.column.Column.{Column}
 use Rattle.vast_value.specs.declared.kind.Kind.{Kind}
-use Rattle.vast_value.specs.Fit.{fits_column, fits_columns}
+use Rattle.vast_value.specs.Fit.{fits_column, fits_columns, is_small}
 use Rattle.vast_value.specs.Layouts.{is_empty}
 use Rattle.vast_value.specs.Headings.{Field, field_of}
 use Rattle.vast_value.proofs.RowLemmas.{fits_push}
@@ -75,6 +76,21 @@ cell_step n cell (Err at) = refl
 
 abbrev fields : List Column → List Field
 fields cs = map field_of cs
+
+-- the cell that was put behind others
+pub record Put (read : Option Cell) (row new : List Cell) : Type 0 where
+  pub cell : Cell
+  pub is : read ≡ Some cell
+  pub put : new ≡ row ++ cell ∷ []
+
+pub cell_put : (read : Option Cell) (row new : List Cell) → option_map (λ x. row ++ x ∷ []) read ≡ Some new → Put read row new
+cell_put None row new put = absurd cc
+cell_put (Some x) row new put = record { cell = x; is = refl; put = cc }
+
+pub last_small : (row new : List Cell) (x : Cell) → new ≡ row ++ x ∷ [] → list_all is_small new ≡ true → is_small x ≡ true
+last_small row new x put all =
+    let both : (list_all is_small row && list_all is_small (x ∷ [])) ≡ true = sym (list_all-append is_small row (x ∷ [])) ∙ ap (list_all is_small) (sym put) ∙ all in
+    (and_parts (is_small x) true (and_parts (list_all is_small row) (list_all is_small (x ∷ [])) both).1).0
 
 pub row_step : (m : Marks) (whole : Result (List Cell) At) (n : ℕ) (row new : List Cell) (cs behind : List Column) (c : Column) (pieces more : List (List ℕ)) (raw : List ℕ) (x : Cell)
     → whole ≡ ahead row (cells_read m n (fields cs) pieces) → cs ≡ c ∷ behind → pieces ≡ raw ∷ more → cell_read m c.kind raw ≡ Some x → new ≡ row ++ x ∷ []

@@ -3,9 +3,10 @@ ghost use Rattle.std.specs.Prelude.{◌≡◌, ◌≤◌, ◌+◌, ◌==◌, len
 ghost use Rattle.std.specs.List.{before_first, after_first, position_or_len};
 ghost use Rattle.std.specs.Option.{option_copied};
 ghost use Rattle.memchr.specs.Find.{IsFirstByte, Nowhere, Passes, is_byte};
-ghost use Rattle.zeek_log.specs.Cuts.{SplitsPiece};
+ghost use Rattle.zeek_log.specs.Cuts.{SplitsPiece, has_backslash};
 ghost use Rattle.zeek_log.specs.Lines.{pieces_of};
 
+use crate::near::first_near;
 use memchr::memchr;
 
 /// The place of the first newline, where none stands before `from`.
@@ -21,11 +22,22 @@ pub fn newline_from(bytes: &[u8], from: usize) -> Option<usize>
     }
 }
 
+/// Whether a backslash is among the bytes.
+#[tactic(auto, using(crate::proofs::CutLemmas::backslash_found, crate::proofs::CutLemmas::backslash_none))]
+pub fn has_backslash(text: &[u8]) -> bool
+    ensures { result ≡ has_backslash text.now }
+{
+    match memchr(b'\\', text) {
+        Some(_) => true,
+        None => false,
+    }
+}
+
 /// The first piece of a text, and what follows its separator, if there is one.
 pub fn split_piece(separator: u8, text: &[u8]) -> (&[u8], Option<&[u8]>)
     ensures { SplitsPiece separator text.now result.0.now (option_copied result.1) }
 {
-    let Some(at) = memchr(separator, text) else {
+    let Some(at) = first_near(separator, text) else {
         return (text, None);
     };
     let (piece, behind) = text.split_at(at);

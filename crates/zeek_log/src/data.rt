@@ -7,12 +7,12 @@ ghost use Rattle.zeek_log.specs.Answers.{told_of, Answers, Does, LineFits, bad_c
 ghost use Rattle.zeek_log.specs.Lines.{pieces_of};
 ghost use Rattle.zeek_log.specs.Table.{data_line, row_read};
 
-use crate::cut::{has_pieces, split_piece};
+use crate::cut::{has_backslash, has_pieces, split_piece};
 use crate::fault::{At, LineEnd, ZeekFault, bad_line};
 use crate::known::Known;
 use crate::step::Step;
 use std::alloc::Global;
-use value_text::{CellEnd, Marks, read_cell};
+use value_text::{CellEnd, Marks, push_cell};
 use vast_value::{Column, Row};
 
 /// The row of a data line.
@@ -61,18 +61,15 @@ fn read_row(
     let Ok(mut row) = Row::with_capacity(alloc, columns.len()) else {
         return Err(LineEnd::Memory);
     };
+    let plain = !has_backslash(line);
     let mut rest = Some(line);
     for (at, column) in columns.iter().enumerate() {
         let Some(text) = rest else {
             return Err(bad_line(ZeekFault::CellCount));
         };
         let (raw, after) = split_piece(separator, text);
-        match read_cell(alloc, column.kind, marks, raw) {
-            Ok(cell) => {
-                let Ok(()) = row.push(cell) else {
-                    return Err(LineEnd::Memory);
-                };
-            }
+        match push_cell(alloc, column.kind, marks, plain, raw, &mut row) {
+            Ok(()) => {}
             Err(CellEnd::Memory) => return Err(LineEnd::Memory),
             Err(CellEnd::BadText) => return Err(bad_cell(
                 separator,

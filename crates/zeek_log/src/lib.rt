@@ -15,6 +15,7 @@ mod held;
 mod known;
 mod line;
 mod names;
+mod near;
 mod opening;
 mod reader;
 mod step;
