@@ -18,21 +18,43 @@ abbrev pub is_i64 : ℤ → Bool
 is_i64 (pos n) = nat_lt n (2 ^ 63)
 is_i64 (negsuc n) = nat_lt n (2 ^ 63)
 
--- a text has at most 2^24 bytes
+-- the most bytes of a text, and the most elements of a container
+abbrev pub most_parts : ℕ
+most_parts = 2 ^ 24
+
+abbrev pub is_ranged : Value → Bool
+is_ranged (BoolOf b) = true
+is_ranged (Count n) = nat_lt n (2 ^ 64)
+is_ranged (Int z) = is_i64 z
+is_ranged (Time z) = is_i64 z
+is_ranged (Span z) = is_i64 z
+is_ranged (Text t) = list_all is_byte t
+is_ranged (Name t) = list_all is_byte t
+is_ranged (Addr a) = nat_lt a (2 ^ 128)
+is_ranged (Subnet n) = nat_lt n.base (2 ^ 128)
+is_ranged (Port p over) = nat_lt p (2 ^ 16)
+
+abbrev pub is_ranged_element : Option Value → Bool
+is_ranged_element None = true
+is_ranged_element (Some v) = is_ranged v
+
+abbrev pub is_ranged_cell : Cell → Bool
+is_ranged_cell Unset = true
+is_ranged_cell (One v) = is_ranged v
+is_ranged_cell (Many items) = list_all is_ranged_element items
+
+-- a text is not too long
+abbrev pub is_sized : Value → Bool
+is_sized (Text t) = nat_le (length t) most_parts
+is_sized (Name t) = nat_le (length t) most_parts
+is_sized _ = true
+
+-- a text has at most 2^24 bytes, which are bytes
 abbrev pub is_short : List ℕ → Bool
-is_short text = nat_le (length text) (2 ^ 24) && list_all is_byte text
+is_short text = nat_le (length text) most_parts && list_all is_byte text
 
 abbrev pub is_bounded : Value → Bool
-is_bounded (BoolOf b) = true
-is_bounded (Count n) = nat_lt n (2 ^ 64)
-is_bounded (Int z) = is_i64 z
-is_bounded (Time z) = is_i64 z
-is_bounded (Span z) = is_i64 z
-is_bounded (Text t) = is_short t
-is_bounded (Name t) = is_short t
-is_bounded (Addr a) = nat_lt a (2 ^ 128)
-is_bounded (Subnet n) = nat_lt n.base (2 ^ 128)
-is_bounded (Port p) = nat_lt p (2 ^ 16)
+is_bounded v = is_sized v && is_ranged v
 
 abbrev pub is_bounded_element : Option Value → Bool
 is_bounded_element None = true
@@ -42,7 +64,7 @@ is_bounded_element (Some v) = is_bounded v
 abbrev pub is_small : Cell → Bool
 is_small Unset = true
 is_small (One v) = is_bounded v
-is_small (Many items) = nat_le (length items) (2 ^ 24) && list_all is_bounded_element items
+is_small (Many items) = nat_le (length items) most_parts && list_all is_bounded_element items
 
 abbrev pub fits_column : Column → Cell → Bool
 fits_column c x = has_kind x c.kind && is_small x

@@ -13,7 +13,7 @@ use Rattle.vast_value.specs.declared.layout.BadLayout.{BadLayout}
 use Rattle.vast_value.specs.declared.layout.BadLayout.TheVariants.{EmptyPath, NoColumns, TooManyColumns, EmptyName, SameName}
 use Rattle.vast_value.specs.Fit.{is_small}
 use Rattle.vast_value.specs.Kinds.{has_kind}
-use Rattle.vast_value.specs.Layouts.{is_empty}
+use Rattle.vast_value.specs.Layouts.{is_empty, name_fault}
 
 pub record Field : Type 0 where
   pub name : List ℕ
@@ -37,10 +37,7 @@ abbrev pub fits_fields : List Field → List Cell → Bool
 fits_fields = pointwise fits_field
 
 abbrev pub field_fault : ℕ → List Field → Field → Option BadLayout
-field_fault n before f =
-    if nat_lt 256 n then Some TooManyColumns
-    else (if is_empty f.name then Some (EmptyName n)
-    else (if list_any (λ g. bytes_eq g.name f.name) before then Some (SameName n) else None))
+field_fault n before f = name_fault n f.name (list_any (λ g. bytes_eq g.name f.name) before)
 
 abbrev pub fields_fault : ℕ → List Field → List Field → Option BadLayout
 fields_fault n before [] = None

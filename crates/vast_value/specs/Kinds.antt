@@ -1,6 +1,7 @@
 -- The kinds of values and cells.
-use Rattle.std.specs.Prelude.{Bool, true, false, not, ◌&&◌, List, [], ◌∷◌, Option, None, Some}
+use Rattle.std.specs.Prelude.{ℕ, codes, find, Bool, true, false, not, ◌&&◌, List, [], ◌∷◌, Option, None, Some}
 use Rattle.std.specs.List.{list_all}
+use Rattle.std.specs.Str.{bytes_eq}
 use Rattle.vast_value.specs.declared.kind.Elem.{Elem}
 use Rattle.vast_value.specs.declared.kind.Elem.TheVariants as elem
 use Rattle.vast_value.specs.declared.kind.Kind.{Kind}
@@ -23,6 +24,33 @@ elem_eq elem.Subnet elem.Subnet = true
 elem_eq elem.Port elem.Port = true
 elem_eq _ _ = false
 
+-- the name of a kind in logs and queries
+abbrev pub elem_name : Elem → List ℕ
+elem_name elem.Bool = codes "bool"
+elem_name elem.Count = codes "count"
+elem_name elem.Int = codes "int"
+elem_name elem.Time = codes "time"
+elem_name elem.Span = codes "interval"
+elem_name elem.Text = codes "string"
+elem_name elem.Name = codes "enum"
+elem_name elem.Addr = codes "addr"
+elem_name elem.Subnet = codes "subnet"
+elem_name elem.Port = codes "port"
+
+-- the kinds whose names have at most five letters
+abbrev pub short_elems : List Elem
+short_elems = elem.Bool ∷ elem.Count ∷ elem.Int ∷ elem.Time ∷ elem.Name ∷ elem.Addr ∷ elem.Port ∷ []
+
+abbrev pub every_elem : List Elem
+every_elem = elem.Text ∷ elem.Span ∷ elem.Subnet ∷ short_elems
+
+-- the kind that has this name
+abbrev pub elem_named : List ℕ → Option Elem
+elem_named name = find (λ e. bytes_eq name (elem_name e)) every_elem
+
+abbrev pub short_named : List ℕ → Option Elem
+short_named name = find (λ e. bytes_eq name (elem_name e)) short_elems
+
 -- the kind of a value
 abbrev pub elem_of : Value → Elem
 elem_of (value.Bool b) = elem.Bool
@@ -34,7 +62,7 @@ elem_of (value.Text t) = elem.Text
 elem_of (value.Name t) = elem.Name
 elem_of (value.Addr a) = elem.Addr
 elem_of (value.Subnet n) = elem.Subnet
-elem_of (value.Port p) = elem.Port
+elem_of (value.Port p over) = elem.Port
 
 -- an element of a container of this kind: one of the kind, or an unset one
 abbrev pub is_element : Elem → Option Value → Bool

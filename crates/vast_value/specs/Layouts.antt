@@ -15,12 +15,19 @@ is_empty (x ∷ xs) = false
 abbrev pub is_named : List ℕ → List Column → Bool
 is_named name columns = list_any (λ c. bytes_eq c.name name) columns
 
+-- the most columns of a layout
+abbrev pub most_columns : ℕ
+most_columns = 256
+
+-- what is wrong with the name of the n-th column, from 1, where an earlier column has it or none does
+abbrev pub name_fault : ℕ → List ℕ → Bool → Option BadLayout
+name_fault n name taken =
+    if nat_lt most_columns n then Some TooManyColumns
+    else (if is_empty name then Some (EmptyName n) else (if taken then Some (SameName n) else None))
+
 -- what is wrong with the n-th column, from 1, which follows these
 abbrev pub column_fault : ℕ → List Column → Column → Option BadLayout
-column_fault n before c =
-    if nat_lt 256 n then Some TooManyColumns
-    else (if is_empty c.name then Some (EmptyName n)
-    else (if is_named c.name before then Some (SameName n) else None))
+column_fault n before c = name_fault n c.name (is_named c.name before)
 
 -- what is wrong with the first bad one of these columns, the first of which is the n-th, from 1
 abbrev pub columns_fault : ℕ → List Column → List Column → Option BadLayout

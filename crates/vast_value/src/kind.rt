@@ -1,6 +1,6 @@
 //! The kinds of values and of cells.
 ghost use Rattle.std.specs.Prelude.{◌≡◌};
-ghost use Rattle.vast_value.specs.Kinds.{elem_eq};
+ghost use Rattle.vast_value.specs.Kinds.{elem_eq, elem_named, short_named};
 
 /// The kind of a single value.
 #[derive(Clone, Copy, Debug, PartialEq, Eq)]
@@ -44,5 +44,38 @@ impl Elem {
         ensures { result ≡ elem_eq self other }
     {
         self == other
+    }
+
+    /// The kind that has this name in logs and queries: `bool`, `count`, `int`, `time`, `interval`, `string`, `enum`,
+    /// `addr`, `subnet` or `port`.
+    pub fn named(name: &[u8]) -> Option<Elem>
+        ensures { result ≡ elem_named name.now }
+    {
+        if name == b"string".as_slice() {
+            return Some(Elem::Text);
+        }
+        if name == b"interval".as_slice() {
+            return Some(Elem::Span);
+        }
+        if name == b"subnet".as_slice() {
+            return Some(Elem::Subnet);
+        }
+        short_named(name)
+    }
+}
+
+/// The kind that has this name, among those of at most five letters.
+fn short_named(name: &[u8]) -> Option<Elem>
+    ensures { result ≡ short_named name.now }
+{
+    match name {
+        b"bool" => Some(Elem::Bool),
+        b"count" => Some(Elem::Count),
+        b"int" => Some(Elem::Int),
+        b"time" => Some(Elem::Time),
+        b"enum" => Some(Elem::Name),
+        b"addr" => Some(Elem::Addr),
+        b"port" => Some(Elem::Port),
+        _ => None,
     }
 }

@@ -1,11 +1,14 @@
 //! Layouts: a path and the columns of its rows.
 ghost use Rattle.std.specs.Prelude.{◌≡◌, ◌≤◌, ◌+◌, ◌^◌, [], length, MatchResult, IfOk, is_none, IsTrue};
-ghost use Rattle.vast_value.specs.Layouts.{layout_fault, columns_fault, column_fault, is_named};
+ghost use Rattle.vast_value.specs.Layouts.{layout_fault, columns_fault, column_fault, name_fault, is_named};
 
 use crate::bytes::Bytes;
 use crate::column::Column;
 use crate::sequence::Seq;
 use std::alloc::{AllocError, Global};
+
+/// The most columns of a layout.
+pub const MOST_COLUMNS: usize = 256;
 
 /// The columns of a layout, in order.
 pub type Columns = Seq<Column>;
@@ -123,15 +126,24 @@ fn columns_fault(columns: &[Column]) -> Option<BadLayout>
 fn column_fault(at: usize, before: &[Column], column: &Column) -> Option<BadLayout>
     ensures { result ≡ column_fault (at + 1) before.now column.now }
 {
-    if at >= 256 {
+    let name = column.name.as_slice();
+    name_fault(at, name, is_named(name, before))
+}
+
+/// What is wrong with a column's name: that `at` columns, which are more than there may be, stand before it, that it is
+/// empty, or that it is taken by an earlier column.
+pub fn name_fault(at: usize, name: &[u8], taken: bool) -> Option<BadLayout>
+    ensures { result ≡ name_fault (at + 1) name.now taken }
+{
+    if at >= MOST_COLUMNS {
         return Some(BadLayout::TooManyColumns);
     }
-    let number = at as u32 + 1;
-    if column.name.as_slice().is_empty() {
-        return Some(BadLayout::EmptyName { column: number });
+    let column = at as u32 + 1;
+    if name.is_empty() {
+        return Some(BadLayout::EmptyName { column });
     }
-    if is_named(column.name.as_slice(), before) {
-        return Some(BadLayout::SameName { column: number });
+    if taken {
+        return Some(BadLayout::SameName { column });
     }
     None
 }

@@ -11,19 +11,23 @@ mod fit;
 mod kind;
 mod layout;
 mod net;
+mod ranges;
 mod row;
 mod sequence;
+mod transport;
 mod value;
 
 pub use bytes::Bytes;
 pub use cell::{Cell, Cells};
 pub use column::Column;
-pub use fit::fits;
+pub use fit::{MOST_PARTS, fits};
 pub use kind::{Elem, Kind};
-pub use layout::{BadLayout, Columns, Layout};
+pub use layout::{BadLayout, Columns, Layout, MOST_COLUMNS, name_fault};
 pub use net::Net;
+pub use ranges::{ranged_bytes, ranged_cell};
 pub use row::Row;
 pub use sequence::Seq;
+pub use transport::Transport;
 pub use value::Value;
 
 #[cfg(test)]

@@ -6,6 +6,7 @@ ghost use Rattle.vast_value.specs.Values.{order_of};
 use crate::bytes::Bytes;
 use crate::kind::Elem;
 use crate::net::Net;
+use crate::transport::Transport;
 use std::alloc::{AllocError, Global};
 use std::cmp::Ordering;
 
@@ -24,7 +25,8 @@ pub enum Value {
     /// An IPv4 address a.b.c.d is held as ::ffff:a.b.c.d.
     Addr(u128),
     Subnet(Net),
-    Port(u16),
+    /// A port's number, and the transport protocol that it is of.
+    Port { number: u16, over: Transport },
 }
 
 impl Value {
@@ -42,7 +44,7 @@ impl Value {
             Value::Name(_) => Elem::Name,
             Value::Addr(_) => Elem::Addr,
             Value::Subnet(_) => Elem::Subnet,
-            Value::Port(_) => Elem::Port,
+            Value::Port { .. } => Elem::Port,
         }
     }
 
@@ -60,13 +62,14 @@ impl Value {
             (Value::Name(a), Value::Name(b)) => a.as_slice() == b.as_slice(),
             (Value::Addr(a), Value::Addr(b)) => a == b,
             (Value::Subnet(a), Value::Subnet(b)) => a.is(b),
-            (Value::Port(a), Value::Port(b)) => a == b,
+            (Value::Port { number: a, over: c }, Value::Port { number: b, over: d }) => a == b
+                && c == d,
             _ => false,
         }
     }
 
     /// The order of two values of one kind. It is `None` exactly where the kinds differ or have no order: only counts,
-    /// ints, times, spans and ports have one.
+    /// ints, times, spans and ports have one. Ports are ordered by number, and those of one number by transport.
     pub fn compare(&self, other: &Value) -> Option<Ordering>
         ensures { result ≡ order_of self.now other.now }
     {
@@ -75,7 +78,9 @@ impl Value {
             (Value::Int(a), Value::Int(b)) => Some(a.cmp(b)),
             (Value::Time(a), Value::Time(b)) => Some(a.cmp(b)),
             (Value::Span(a), Value::Span(b)) => Some(a.cmp(b)),
-            (Value::Port(a), Value::Port(b)) => Some(a.cmp(b)),
+            (Value::Port { number: a, over: c }, Value::Port { number: b, over: d }) => {
+                Some(a.cmp(b).then(c.code().cmp(&d.code())))
+            }
             _ => None,
         }
     }
@@ -94,7 +99,10 @@ impl Value {
             Value::Name(text) => Value::Name(text.duplicate(alloc)?),
             Value::Addr(a) => Value::Addr(*a),
             Value::Subnet(net) => Value::Subnet(*net),
-            Value::Port(p) => Value::Port(*p),
+            Value::Port { number, over } => Value::Port {
+                number: *number,
+                over: *over,
+            },
         })
     }
 }
