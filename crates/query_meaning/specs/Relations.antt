@@ -1,19 +1,22 @@
 -- The relations of a cell to a literal.
-use Rattle.std.specs.Prelude.{ℕ, ◌-◌, ◌/◌, ◌^◌, Bool, true, false, not, ◌&&◌, ◌||◌, ◌==◌, List, [], ◌∷◌, Option, None, Some, length, take, nat_le}
+use Rattle.std.specs.Prelude.{ℕ, ◌-◌, ◌/◌, ◌^◌, Bool, true, false, not, ◌&&◌, ◌||◌, ◌==◌, if◌then◌else◌, List, [], ◌∷◌, Option, None, Some, length, take, nat_le}
 use Rattle.std.specs.List.{list_any}
-use Rattle.std.specs.Ordering.{int_eq}
+use Rattle.std.specs.Ordering.{int_eq, nat_cmp}
 use Rattle.std.specs.Str.{bytes_eq}
 use Rattle.std.specs.declared.cmp.Ordering.{Ordering}
 use Rattle.std.specs.declared.cmp.Ordering.TheVariants.{Less, Equal, Greater}
 use Rattle.vast_value.specs.declared.kind.Elem.{Elem}
 use Rattle.vast_value.specs.declared.kind.Elem.TheVariants as elem
 use Rattle.vast_value.specs.declared.net.Net.{Net}
+use Rattle.vast_value.specs.declared.transport.Transport.{Transport}
+use Rattle.vast_value.specs.declared.transport.Transport.TheVariants.{Unknown}
 use Rattle.vast_value.specs.declared.value.Value.{Value}
 use Rattle.vast_value.specs.declared.value.Value.TheVariants as value
 use Rattle.vast_value.specs.declared.cell.Cell.{Cell}
 use Rattle.vast_value.specs.declared.cell.Cell.TheVariants as cell
 use Rattle.vast_value.specs.Kinds.{elem_eq, elem_of}
 use Rattle.vast_value.specs.Layouts.{is_empty}
+use Rattle.vast_value.specs.Ports.{transport_eq}
 use Rattle.vast_value.specs.Values.{order_of}
 use Rattle.query_meaning.specs.declared.expr.Rel.{Rel}
 use Rattle.query_meaning.specs.declared.expr.Rel.TheVariants.{Eq, Ne, Lt, Le, Gt, Ge, Within, Contains}
@@ -30,7 +33,12 @@ abbrev pub same_bool : Bool → Bool → Bool
 same_bool true b = b
 same_bool false b = not b
 
--- equal values of kinds that go with each other
+-- A literal port without a transport takes every transport, and another its own alone.
+abbrev pub takes_transport : Transport → Transport → Bool
+takes_transport Unknown over = true
+takes_transport literal over = transport_eq literal over
+
+-- equal values of kinds that go with each other; of ports the numbers, and the transport that the literal tells
 abbrev pub equals : Value → Value → Bool
 equals (value.Bool a) (value.Bool b) = same_bool a b
 equals (value.Count n) (value.Count m) = n == m
@@ -43,12 +51,17 @@ equals (value.Name t) (value.Text u) = bytes_eq t u
 equals (value.Name t) (value.Name u) = bytes_eq t u
 equals (value.Addr a) (value.Addr b) = a == b
 equals (value.Subnet n) (value.Subnet m) = n.base == m.base && n.bits == m.bits
-equals (value.Port p) (value.Port q) = p == q
+equals (value.Port p over) (value.Port q by) = p == q && takes_transport over by
 equals _ _ = false
 
 -- the cell is set and of a kind that the literal goes with, but not equal
 abbrev pub differs : Value → Value → Bool
 differs literal v = goes_with (elem_of literal) (elem_of v) && not (equals literal v)
+
+-- how the value stands to the literal, in their order: of ports by number, where the literal takes the transport
+abbrev pub order_to : Value → Value → Option Ordering
+order_to (value.Port p over) (value.Port q by) = if takes_transport over by then Some (nat_cmp q p) else None
+order_to literal v = order_of v literal
 
 abbrev pub is_less : Option Ordering → Bool
 is_less (Some Less) = true
@@ -102,10 +115,10 @@ equals_element literal (Some v) = equals literal v
 abbrev pub value_meets : Rel → Value → Value → Bool
 value_meets Eq literal v = equals literal v
 value_meets Ne literal v = differs literal v
-value_meets Lt literal v = is_less (order_of v literal)
-value_meets Le literal v = is_less (order_of v literal) || is_equal (order_of v literal)
-value_meets Gt literal v = is_greater (order_of v literal)
-value_meets Ge literal v = is_greater (order_of v literal) || is_equal (order_of v literal)
+value_meets Lt literal v = is_less (order_to literal v)
+value_meets Le literal v = is_less (order_to literal v) || is_equal (order_to literal v)
+value_meets Gt literal v = is_greater (order_to literal v)
+value_meets Ge literal v = is_greater (order_to literal v) || is_equal (order_to literal v)
 value_meets Within literal v = lies_in literal v
 value_meets Contains literal v = has literal v
 

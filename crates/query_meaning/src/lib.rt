@@ -3,11 +3,16 @@
 
 mod agreement;
 mod expr;
+mod laws;
 mod meaning;
 mod picks;
 mod relations;
 
 pub use agreement::agrees;
 pub use expr::{Expr, Exprs, Literal, Pick, Rel, Test};
-pub use meaning::{holds, members_and_not};
+pub use laws::{
+    clash_holds_of_nothing, members_and_not, order_is_total, picks_by_column, subnets_hold,
+    texts_hold,
+};
+pub use meaning::holds;
 pub use relations::{meets, text_meets};

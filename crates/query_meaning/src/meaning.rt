@@ -5,7 +5,6 @@ ghost use Rattle.vast_value.specs.declared.cell.Cell.{Cell};
 ghost use Rattle.vast_value.specs.declared.cell.Cell.TheVariants as cell;
 ghost use Rattle.vast_value.specs.Fit.{fits_columns};
 ghost use Rattle.vast_value.specs.Headings.{heading_of, field_of};
-ghost use Rattle.query_meaning.specs.Laws.{TwiceNot, AllOrSome};
 ghost use Rattle.query_meaning.specs.Meaning.{holds, test_holds, named_cells, cells_of_kind, event_time, is_of};
 ghost use Rattle.query_meaning.specs.Relations.{meets};
 
@@ -42,15 +41,6 @@ pub fn holds(expr: &Expr, layout: &Layout, row: &Row) -> bool
             false
         }
     }
-}
-
-/// The law of `!`: twice is none. And the law of members: `&&` is all of them, `||` some.
-pub fn members_and_not(expr: &Expr, members: &[Expr])
-    ensures twice { TwiceNot expr.now }
-    ensures lists { AllOrSome members.now }
-{
-    let _ = expr;
-    let _ = members;
 }
 
 fn test_holds(test: &Test, layout: &Layout, row: &Row) -> bool

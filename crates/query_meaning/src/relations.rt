@@ -4,13 +4,12 @@ ghost use Rattle.std.specs.List.{list_any};
 ghost use Rattle.std.specs.Str.{bytes_eq};
 ghost use Rattle.vast_value.specs.declared.cell.Cell.TheVariants as cell;
 ghost use Rattle.vast_value.specs.declared.value.Value.TheVariants as value;
-ghost use Rattle.vast_value.specs.Values.{order_of};
-ghost use Rattle.query_meaning.specs.Relations.{goes_with, equals, differs, is_less, is_greater, is_equal, holds_address, holds_net, lies_in, has_text, has, equals_element, value_meets, elements_meet, nil_meets, literal_meets, meets, is_unset};
+ghost use Rattle.query_meaning.specs.Relations.{goes_with, takes_transport, equals, order_to, differs, is_less, is_greater, is_equal, holds_address, holds_net, lies_in, has_text, has, equals_element, value_meets, elements_meet, nil_meets, literal_meets, meets, is_unset};
 
 use crate::expr::{Literal, Rel};
 use memchr::memmem;
 use std::cmp::Ordering;
-use vast_value::{Bytes, Cell, Elem, Net, Value};
+use vast_value::{Bytes, Cell, Elem, Net, Transport, Value};
 
 /// Whether a cell meets a relation to a literal.
 ///
@@ -112,12 +111,44 @@ fn value_meets(rel: Rel, literal: &Value, value: &Value) -> bool
     match rel {
         Rel::Eq => equals(literal, value),
         Rel::Ne => differs(literal, value),
-        Rel::Lt => is_less(value.compare(literal)),
-        Rel::Le => is_at_most(value.compare(literal)),
-        Rel::Gt => is_greater(value.compare(literal)),
-        Rel::Ge => is_at_least(value.compare(literal)),
+        Rel::Lt => is_less(order_to(literal, value)),
+        Rel::Le => is_at_most(order_to(literal, value)),
+        Rel::Gt => is_greater(order_to(literal, value)),
+        Rel::Ge => is_at_least(order_to(literal, value)),
         Rel::Within => lies_in(literal, value),
         Rel::Contains => has(literal, value),
+    }
+}
+
+// How the value stands to the literal. Ports are ordered by number alone, where the literal takes the transport.
+fn order_to(literal: &Value, value: &Value) -> Option<Ordering>
+    ensures { result ≡ order_to literal.now value.now }
+{
+    match (literal, value) {
+        (
+            Value::Port { number: p, over },
+            Value::Port {
+                number: q,
+                over: by,
+            },
+        ) => {
+            if takes_transport(*over, *by) {
+                Some(q.cmp(p))
+            } else {
+                None
+            }
+        }
+        _ => value.compare(literal),
+    }
+}
+
+// Whether a literal port of this transport takes a port of the other.
+fn takes_transport(literal: Transport, over: Transport) -> bool
+    ensures { result ≡ takes_transport literal over }
+{
+    match literal {
+        Transport::Unknown => true,
+        _ => literal.is(over),
     }
 }
 
@@ -160,7 +191,13 @@ fn equals(literal: &Value, value: &Value) -> bool
         ),
         (Value::Addr(a), Value::Addr(b)) => a == b,
         (Value::Subnet(n), Value::Subnet(m)) => is_net(n, m),
-        (Value::Port(p), Value::Port(q)) => p == q,
+        (
+            Value::Port { number: p, over },
+            Value::Port {
+                number: q,
+                over: by,
+            },
+        ) => { p == q && takes_transport(*over, *by) }
         _ => false,
     }
 }

@@ -5,7 +5,7 @@ use Rattle.query_meaning.specs.declared.expr.Expr.{Expr}
 use Rattle.query_meaning.specs.declared.expr.Expr.TheFolds.{fold-roll-Expr}
 use Rattle.query_meaning.specs.declared.expr.Expr.TheOpen as level
 use Rattle.query_meaning.specs.Meaning.{holds, level_holds}
-use Rattle.query_meaning.proofs.meaning.members_and_not.Goals as goal
+use Rattle.query_meaning.proofs.laws.members_and_not.Goals as goal
 
 any_map : (f : Expr → Bool) (members : List Expr) → list_any (λ b. b) (map f members) ≡ list_any f members
 any_map f [] = refl
