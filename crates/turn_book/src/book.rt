@@ -3,7 +3,7 @@ ghost use Rattle.std.specs.Prelude.{◌≡◌, ◌+◌, ◌<◌, [], ◌∷◌, 
 
 use crate::lock::TICKET;
 use crate::seats::{Pass, Root, Turner};
-use crate::told::{History, Move, Told};
+use crate::told::{History, Move};
 use crate::view::{Cut, InTurn, Learning, View};
 use atomic_table::Table;
 use std::alloc::{AllocError, Global};
@@ -26,7 +26,7 @@ pub struct Book<S: History> {
     pub ghost slots: { table.shared.table_id.slots ≡ 1 },
 }
 
-impl<S: Told> Book<S> {
+impl<S: History> Book<S> {
     ghost use Rattle.turn_book.specs.Histories.{GrowsByOthers, longer, own_of};
     ghost use Rattle.turn_book.specs.Seats.{book_id, pass_book, pass_standing, root_book, root_standing};
     ghost use Rattle.turn_book.specs.Standings.{NeedHolds, Turned, first_standing, new_standing};

@@ -4,7 +4,7 @@ ghost use Rattle.turn_book.specs.declared.view.Stage.TheVariants.{Idle};
 
 use crate::book::Book;
 use crate::lock::{Place, turn_at};
-use crate::told::{History, Move, Told};
+use crate::told::{History, Move};
 use std::sync::Wait;
 
 /// The right to make turns. It has a seat of its own, and has seen a beginning of the history.
@@ -56,10 +56,17 @@ impl<S: History> Root<S> {
     }
 }
 
+/// What a type has that sits at the table of a book. No other crate can name it, so none can make a `Turner`.
+pub trait Seated {}
+
+impl<S: History> Seated for Pass<S> {}
+
+impl<S: History> Seated for Root<S> {}
+
 /// Who makes turns: the root and the passes, and no other type.
 ///
 /// All but `seat` is for `Book` alone, whose `turn` says what a turn is.
-pub trait Turner<S: Told> {
+pub trait Turner<S: History>: Seated {
     ghost use Rattle.turn_book.specs.Seats.{book_id};
     ghost use Rattle.turn_book.specs.Standings.{BookId, Standing, NeedHolds, Turned};
 
@@ -80,7 +87,7 @@ pub trait Turner<S: Told> {
         ensures turned { Turned S.maker M.needs M.does step (standing self.old) (standing self.new) result };
 }
 
-impl<S: Told> Turner<S> for Pass<S> {
+impl<S: History> Turner<S> for Pass<S> {
     ghost use Rattle.turn_book.specs.Seats.{pass_book, pass_standing};
 
     ghost of = { pass_book };
@@ -96,7 +103,7 @@ impl<S: Told> Turner<S> for Pass<S> {
     }
 }
 
-impl<S: Told> Turner<S> for Root<S> {
+impl<S: History> Turner<S> for Root<S> {
     ghost use Rattle.turn_book.specs.Seats.{root_book, root_standing};
 
     ghost of = { root_book };

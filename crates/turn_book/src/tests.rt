@@ -171,9 +171,10 @@ fn counted(pairs: &[Pair], seat: u32) -> Option<u64> {
     Some(next)
 }
 
+/// With many turns, threads sleep often, so the test doesn't end where a sleeper isn't woken.
 #[test]
 fn each_seat_keeps_its_order_in_threads(rt: HostRuntime) -> Result<(), Fail> {
-    for (seats, turns) in [(2, 100), (8, 1000)] {
+    for (seats, turns) in [(2, 100), (4, 100_000)] {
         let (book, mut root) = Book::new(rt.alloc(), empty(rt.alloc()))?;
         let passes = split_all(rt.alloc(), &book, &mut root, seats)?;
         let passes = count_up_all(&rt, &book, passes, turns)?;

@@ -20,7 +20,8 @@ pub trait History: Drop {
         ensures { result ≡ length (history self.now) };
 }
 
-/// A state that may go from thread to thread, so that a book can keep it. An `impl` is empty.
+/// A state that may go from thread to thread, so that threads can share a book of it. An `impl` is empty, and proves
+/// that the state can be sent. No call of a book asks for it.
 pub trait Told: History + Send {}
 
 /// What one turn does to the state. It waits for nobody, and has want of memory in its own answer.
