@@ -1,2 +1,3 @@
 pub mod Reading
+mod Vectors
 pub mod Writing

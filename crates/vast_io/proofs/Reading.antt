@@ -1,5 +1,6 @@
 -- A read from memory.
-use Rattle.std.proofs.Common.{◌≡◌, ℕ, ◌+◌, List, ◌++◌, length, take, drop, ap, sym, ◌∙◌, subst}
+use Rattle.std.proofs.Common.{◌≡◌, ℕ, ◌+◌, List, ◌++◌, Option, None, Some, length, take, drop, refl, ap, sym, ◌∙◌, subst, append_assoc}
+use Rattle.std.specs.Io.KnownBytes.{prepend_known}
 use Rattle.std.proofs.lemmas.List.{take-append-drop, drop-drop}
 use Rattle.std.proofs.Math.Seq.{take-append_seam}
 
@@ -13,3 +14,8 @@ left_rejoined n at bytes given is =
     ap (λ (front : List ℕ). front ++ drop (at + n) bytes) is
     ∙ ap (λ (back : List ℕ). take n (drop at bytes) ++ back) (sym (drop-drop n at bytes))
     ∙ take-append-drop n (drop at bytes)
+
+-- one text and then another before what is left
+pub prepend_behind : (a b : List ℕ) (left : Option (List ℕ)) → prepend_known a (prepend_known b left) ≡ prepend_known (a ++ b) left
+prepend_behind a b None = refl
+prepend_behind a b (Some xs) = ap Some (sym (append_assoc a b xs))

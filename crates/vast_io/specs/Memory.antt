@@ -1,5 +1,5 @@
 -- The objects in memory: what is left or written, and which calls fail.
-use Rattle.std.specs.Prelude.{ℕ, ◌+◌, ◌-◌, ◌^◌, Bool, false, ◌||◌, if◌then◌else◌, List, [], ◌∷◌, Option, length, min, ◌==◌, is_none}
+use Rattle.std.specs.Prelude.{ℕ, ◌+◌, ◌-◌, ◌^◌, Bool, false, ◌||◌, if◌then◌else◌, List, [], ◌∷◌, Option, length, min, ◌==◌}
 use Rattle.std.specs.List.{list_any, find}
 use Rattle.std.specs.Option.{option_map}
 use Rattle.std.specs.Str.{bytes_eq}
@@ -51,3 +51,7 @@ faults_after faults failed = if failed then next_number faults else faults
 -- the bytes under a name, if there is such a file
 abbrev pub held : List File → List ℕ → Option (List ℕ)
 held files name = option_map (λ file. file.bytes) (find (λ file. bytes_eq file.name name) files)
+
+-- which reads of the source of that file fail
+abbrev pub failing_reads : List File → List ℕ → Option (List ℕ)
+failing_reads files name = option_map (λ file. file.fails.items) (find (λ file. bytes_eq file.name name) files)

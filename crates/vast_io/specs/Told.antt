@@ -1,6 +1,6 @@
 -- What an object of the outside has left or has got, where it tells that. An object that tells nothing has `None`, before
 -- and after each call alike.
-use Rattle.std.specs.Prelude.{◌≡◌, ℕ, ◌≤◌, List, [], ◌++◌, Option, None, Some, Result, MatchResult, IfSome, length, take}
+use Rattle.std.specs.Prelude.{◌≡◌, ℕ, ◌≤◌, List, [], Option, Result, MatchResult, IfSome, length, take}
 use Rattle.std.specs.Io.KnownBytes.{prepend_known, append_known}
 
 -- the first n bytes of what was left went into the buffer, or nothing was taken

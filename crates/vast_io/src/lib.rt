@@ -5,12 +5,17 @@
 //! object tells is the same before and after each call.
 #![tactic(auto)]
 
+mod front;
 mod memory;
 mod outside;
 mod real;
 mod write;
 
+pub use front::Front;
 pub use memory::{File, Files, MemOpener, MemSink, MemSource, OpenGate};
 pub use outside::{Failed, Gate, OpenEnd, Opener, Place, Sink, Source};
 pub use real::{DiskOpener, FileSource, OutSink};
 pub use write::write_all;
+
+#[cfg(test)]
+mod tests;

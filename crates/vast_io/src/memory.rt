@@ -1,11 +1,11 @@
 //! Sources, sinks and openers in memory, which fail where they are told to.
-ghost use Rattle.std.specs.Prelude.{◌≡◌, ℕ, ◌+◌, ◌<◌, ◌≤◌, ◌^◌, ◌↔◌, ◌||◌, List, Option, Some, Ok, [], length, min, take, drop, is_some, is_none, is_err, IfOk, IsErr, IsErrOf, IsTrue, vec_len, vec_capacity};
+ghost use Rattle.std.specs.Prelude.{◌≡◌, ℕ, ◌+◌, ◌<◌, ◌≤◌, ◌^◌, ◌↔◌, ◌||◌, List, Option, Some, Ok, [], length, min, take, drop, is_some, is_none, is_err, IfOk, OnOk, IsErr, IsErrOf, IsTrue, vec_len, vec_capacity};
 ghost use Rattle.std.specs.Option.{option_copied};
 ghost use Rattle.std.specs.List.{find};
 ghost use Rattle.std.specs.Str.{bytes_eq};
 ghost use Rattle.vast_io.specs.Causes.{HasCause, Rose};
 ghost use Rattle.vast_io.specs.Told.{Reads, Writes, IsAtEnd};
-ghost use Rattle.vast_io.specs.Memory.{fails_at, next_number, given_count, taken_count, refuses, faults_after, held};
+ghost use Rattle.vast_io.specs.Memory.{fails_at, next_number, given_count, taken_count, refuses, faults_after, held, failing_reads};
 
 use crate::outside::{Failed, Gate, OpenEnd, Opener, Place, Sink, Source};
 use std::alloc::{AllocError, Global};
@@ -82,7 +82,7 @@ impl Source for MemSource {
 }
 
 // Copies at most so many of the first bytes, as many as there are and fit, and answers how many.
-fn copy_front(from: &[u8], most: usize, into: &mut [u8]) -> usize
+pub(crate) fn copy_front(from: &[u8], most: usize, into: &mut [u8]) -> usize
     ensures count { result ≡ min (length into.old) (min most (length from.now)) }
     ensures front { take result into.new ≡ take result from.now }
 {
@@ -230,9 +230,14 @@ impl Opener for MemOpener {
     fn open_one(&mut self, alloc: Global, name: &str) -> Result<MemSource, OpenEnd>
         ensures left { IfOk result (λ source. Some source.left ≡ held self.old.files name.now) }
         ensures fresh { IfOk result (λ source. source.faults ≡ 0) }
+        ensures pieces { IfOk result (λ source. source.piece ≡ self.old.piece) }
+        ensures fails { IfOk result (λ source. Some source.fails ≡ failing_reads self.old.files name.now) }
         ensures same { (any : List ℕ) → held self.new.files any ≡ held self.old.files any }
+        ensures unchanged { (self.new.files ≡ self.old.files) × (self.new.piece ≡ self.old.piece) × (self.new.fails ≡ self.old.fails) }
         ensures later { self.old.faults ≤ self.new.faults }
         ensures failed { IsErrOf result OpenEnd.Failed → Rose self.old.faults self.new.faults }
+        ensures kept { OnOk result (self.new.faults ≡ self.old.faults) }
+        ensures memory { IsErrOf result OpenEnd.Memory → self.new.faults ≡ self.old.faults }
         ensures told { IsErrOf result OpenEnd.Failed ↔ IsTrue (fails_at self.old.fails.items self.old.openings || is_none (held self.old.files name.now)) }
         ensures openings { self.new.openings ≡ next_number self.old.openings }
     {

@@ -1,5 +1,5 @@
 //! The traits of the outside.
-ghost use Rattle.std.specs.Prelude.{◌≡◌, ℕ, ◌<◌, ◌≤◌, List, Option, Ok, length, is_some, IfOk, IsErrOf};
+ghost use Rattle.std.specs.Prelude.{◌≡◌, ℕ, ◌<◌, ◌≤◌, List, Option, Ok, length, is_some, IfOk, OnOk, IsErrOf};
 ghost use Rattle.vast_io.specs.Causes.{HasCause, Rose};
 ghost use Rattle.vast_io.specs.Told.{Reads, Writes, IsAtEnd};
 
@@ -64,13 +64,16 @@ pub trait Opener {
 
     ghost faults: { Self → ℕ };
 
-    /// A source that has the name's bytes left and no faults. `Failed` comes only where the count rose.
+    /// A source that has the name's bytes left and no faults. The count rises where the answer is `Failed`, and nowhere
+    /// else.
     fn open_one(&mut self, alloc: Global, name: &str) -> Result<Self::Src, OpenEnd>
         ensures left { IfOk result (λ source. Self.Src.left source ≡ bytes_of self.old name.now) }
         ensures fresh { IfOk result (λ source. Self.Src.faults source ≡ 0) }
         ensures same { (any : List ℕ) → bytes_of self.new any ≡ bytes_of self.old any }
         ensures later { faults self.old ≤ faults self.new }
-        ensures failed { IsErrOf result OpenEnd.Failed → Rose (faults self.old) (faults self.new) };
+        ensures failed { IsErrOf result OpenEnd.Failed → Rose (faults self.old) (faults self.new) }
+        ensures kept { OnOk result (faults self.new ≡ faults self.old) }
+        ensures memory { IsErrOf result OpenEnd.Memory → faults self.new ≡ faults self.old };
 }
 
 /// A place in a worker's turn.

@@ -16,7 +16,7 @@ pub struct FileSource<F: Read + Drop + Send> {
 }
 
 impl<F: Read + Drop + Send> FileSource<F> {
-    /// A source that gives what the reader gives.
+    /// A source that gives what the reader gives, without a fault.
     pub fn new(file: F) -> Self
         ensures { result.faults ≡ 0 }
     {
@@ -48,8 +48,10 @@ pub struct OutSink<W: Write + Drop> {
 }
 
 impl<W: Write + Drop> OutSink<W> {
-    /// A sink that writes to the writer.
-    pub fn new(out: W) -> Self {
+    /// A sink that writes to the writer, without a fault.
+    pub fn new(out: W) -> Self
+        ensures { result.faults ≡ 0 }
+    {
         OutSink { out, faults: 0 }
     }
 }
@@ -78,8 +80,10 @@ pub struct DiskOpener<'a, R: Files> {
 }
 
 impl<'a, R: Files> DiskOpener<'a, R> {
-    /// An opener of the files that the runtime reaches.
-    pub fn new(rt: &'a R) -> Self {
+    /// An opener of the files that the runtime reaches, without a fault.
+    pub fn new(rt: &'a R) -> Self
+        ensures { result.faults ≡ 0 }
+    {
         DiskOpener { rt, faults: 0 }
     }
 }

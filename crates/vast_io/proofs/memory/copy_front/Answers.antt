@@ -1,4 +1,4 @@
-use Rattle.std.proofs.Common.{◌≡◌, length, take, drop, sym, ◌∙◌, ap, List, ℕ, arith}
+use Rattle.std.proofs.Common.{◌≡◌, length, drop, ◌∙◌, ap, List, ℕ}
 use Rattle.vast_io.proofs.Reading.{front_copied}
 use Rattle.vast_io.proofs.memory.copy_front.Goals as goal
 

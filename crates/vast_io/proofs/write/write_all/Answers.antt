@@ -1,6 +1,6 @@
-use Rattle.std.proofs.Common.{◌≡◌, ℕ, List, Option, sym, subst, ◌∙◌}
+use Rattle.std.proofs.Common.{ℕ, List, Option, sym, subst, ◌∙◌}
 use Rattle.vast_io.specs.Told.{WritesPart}
-use Rattle.vast_io.proofs.Writing.{Written, written_more, written_part}
+use Rattle.vast_io.proofs.Writing.{written_more, written_part}
 use Rattle.vast_io.proofs.write.write_all.Goals as goal
 
 pub returns-in_err-count-clause-part : goal.returns-in_err-count-clause-part
