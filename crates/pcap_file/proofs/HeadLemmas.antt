@@ -1,21 +1,26 @@
 -- The file head, and what stands behind it.
-use Rattle.std.proofs.Common.{◌≡◌, ℕ, ◌+◌, ◌<◌, ◌≤◌, ◌==◌, Bool, true, false, List, ◌++◌, length, drop, Option, Some, None, Result, Ok, Err, refl, sym, ap, subst, ◌∙◌, arith, length-append, append_assoc}
-use Rattle.std.proofs.lemmas.Bool.{lt-ltb, le-ltb}
-use Rattle.std.proofs.lemmas.List.{drop-append-le, length-drop}
+use Rattle.std.proofs.Common.{◌≡◌, ℕ, ◌+◌, ◌<◌, ◌≤◌, ◌==◌, ◌&&◌, Bool, true, false, nat_le, is_ok, List, [], ◌++◌, length, drop, Option, Some, None, Result, Ok, Err, IfErr, refl, sym, ap, subst, ◌∙◌, arith, length-append, append_assoc}
+use Rattle.std.proofs.lemmas.Bool.{lt-ltb, le-ltb, lt-leb, le-leb}
+use Rattle.std.proofs.lemmas.List.{append-nil, drop-append-le}
 use Rattle.std.specs.Io.KnownBytes.{prepend_known}
-use Rattle.pcap_file.specs.Heads.{number_at, magic_of, magic_end, version_end, head_of, is_link, link_of}
-use Rattle.pcap_file.specs.Records.{Answers, Stop, AtEnd, Failed, AtBound, cut_off, ended, first, records, records_behind, records_from, record_of, captured_of, end_of_head, Ends, IsWhole, held_by, CountsBy, StepsTo, ClosesAs}
-use Rattle.pcap_file.specs.Taking.{most_bytes, Takes, Tells, Counts}
-use Rattle.pcap_file.specs.declared.head.Order.TheVariants.{Big, Little}
+use Rattle.source_block.specs.Holding.{Hold}
+use Rattle.source_block.specs.Taking.{Takes, Stops, Counts}
+use Rattle.source_block.specs.declared.stop.Stop.{Stop}
+use Rattle.source_block.specs.declared.stop.Stop.TheVariants.{AtEnd, Failed, AtBound}
+use Rattle.source_block.specs.declared.stop.Took.TheVariants.{Stopped}
+use Rattle.source_block.proofs.TakeLemmas.{prepend_twice}
+use Rattle.pcap_file.specs.Heads.{number_at, magic_of, magic_end, version_end, head_of, has_head, is_link, link_of}
+use Rattle.pcap_file.specs.Reading.{Reading, Answer, come_from, to_come, headed_by}
+use Rattle.pcap_file.specs.Records.{cut_off, ended, first, records, records_behind, records_from, record_of, captured_of, Answers, Ends, IsWhole, CountsBy, StepsTo}
+use Rattle.pcap_file.specs.declared.reader.Phase.{Phase}
+use Rattle.pcap_file.specs.declared.reader.Phase.TheVariants.{Start, Records, Ended}
+use Rattle.pcap_file.specs.declared.head.Endian.TheVariants.{Big, Little}
 use Rattle.pcap_file.specs.declared.head.Magic.{Magic}
 use Rattle.pcap_file.specs.declared.head.FileHead.{FileHead}
 use Rattle.pcap_file.specs.declared.record.Captured.{Captured}
 use Rattle.pcap_file.specs.declared.end.PcapEnd.{PcapEnd}
 use Rattle.pcap_file.specs.declared.end.PcapEnd.TheVariants.{Done, Fault, ReadFault, TooLong, Memory}
 use Rattle.pcap_file.specs.declared.end.CaptureFault.TheVariants.{BadMagic, VersionUnknown, LinkUnknown, RecordTooLong, ShortHead, ShortRecord}
-use Rattle.pcap_file.specs.declared.fill.Filled.{Filled}
-use Rattle.pcap_file.specs.declared.fill.Filled.TheVariants as filled
-use Rattle.pcap_file.proofs.ByteLemmas.{prepend_twice}
 use Rattle.pcap_file.proofs.RecordLemmas.{number_append, first_record}
 
 -- the head isn't changed by bytes behind
@@ -27,8 +32,8 @@ magic_append new more le =
 
 version_append : (m : Magic) (new more : List ℕ) → 24 ≤ length new → version_end m (new ++ more) ≡ version_end m new
 version_append m new more le =
-    let version = number_append m.order 2 4 new more (omega arith) in
-    let link = number_append m.order 4 20 new more (omega arith) in
+    let version = number_append m.endian 2 4 new more (omega arith) in
+    let link = number_append m.endian 4 20 new more (omega arith) in
     rw (version, link) refl
 
 head_append : (new more : List ℕ) → 24 ≤ length new → head_of (new ++ more) ≡ head_of new
@@ -65,124 +70,151 @@ bad_kind new e h P a b d = by (magic_of new) h
 
     by : (m : Option Magic) → magic_end m new ≡ Err e → P e
     by None h = same (Fault 0 BadMagic) (Err (Fault 0 BadMagic)) refl h a
-    by (Some m) h = inner (number_at m.order 2 4 new == 2) refl (is_link (link_of m new)) refl
+    by (Some m) h = inner (number_at m.endian 2 4 new == 2) refl (is_link (link_of m new)) refl
       where
-        inner : (x : Bool) → (number_at m.order 2 4 new == 2) ≡ x → (y : Bool) → is_link (link_of m new) ≡ y → P e
+        inner : (x : Bool) → (number_at m.endian 2 4 new == 2) ≡ x → (y : Bool) → is_link (link_of m new) ≡ y → P e
         inner false x y y' = let r : version_end m new ≡ Err (Fault 4 VersionUnknown) = rw x refl in same (Fault 4 VersionUnknown) (version_end m new) r h b
         inner true x false y' = let r : version_end m new ≡ Err (Fault 20 LinkUnknown) = rw (x, y') refl in same (Fault 20 LinkUnknown) (version_end m new) r h d
         inner true x true y' = let r : version_end m new ≡ Ok (record { magic = m; link = link_of m new }) = rw (x, y') refl in absurd (ok_err r h)
 
-pub bad_ends : (new : List ℕ) (now : Option (List ℕ)) (e : PcapEnd) → 24 ≤ length new → head_of new ≡ Err e → Ends records 0 new now e
-bad_ends new now e le h = bad_kind new e h (λ x. head_of new ≡ Err x → Ends records 0 new now x) all all all h
+bad_ends : (new : List ℕ) (now : Option (List ℕ)) (taken : ℕ) (e : PcapEnd) → 24 ≤ length new → head_of new ≡ Err e → Ends records new now taken e
+bad_ends new now taken e le h = bad_kind new e h (λ x. head_of new ≡ Err x → Ends records new now taken x) all all all h
   where
     all : {x : PcapEnd} → head_of new ≡ Err x → (more : List ℕ) (stop : Stop) → records (new ++ more) stop ≡ ended x
     all {x} h more stop = behind_head new more stop le ∙ ap (λ (r : Result FileHead PcapEnd). records_behind r (new ++ more) stop) h
 
-pub bad_counts : (X : Type 0) (new : List ℕ) (e : PcapEnd) (before now : ℕ) → head_of new ≡ Err e → now ≡ before → CountsBy {X = X} (Err e) before now
+bad_counts : (X : Type 0) (new : List ℕ) (e : PcapEnd) (before now : ℕ) → head_of new ≡ Err e → now ≡ before → CountsBy {X = X} (Err e) before now
 bad_counts X new e before now h same = bad_kind new e h (λ x. CountsBy {X = X} (Err x) before now) same same same
+
+-- where all 24 bytes came
+pub head_of_ends : (new seen : List ℕ) (now : Option (List ℕ)) (taken : ℕ) (r : Result FileHead PcapEnd) → 24 ≤ length new → r ≡ head_of seen → seen ≡ new → IfErr r (λ e. Ends records new now taken e)
+head_of_ends new seen now taken (Ok head) le h same = tt
+head_of_ends new seen now taken (Err e) le h same = bad_ends new now taken e le (ap head_of (sym same) ∙ sym h)
+
+pub head_of_counts : (seen : List ℕ) (before now : ℕ) (r : Result FileHead PcapEnd) → r ≡ head_of seen → now ≡ before → CountsBy r before now
+head_of_counts seen before now (Ok head) h same = same
+head_of_counts seen before now (Err e) h same = bad_counts FileHead seen e before now (sym h) same
+
+-- whether bytes begin with a file head
+and_false : (b : Bool) → (b && false) ≡ false
+and_false true = refl
+and_false false = refl
+
+pub bad_none : (new : List ℕ) (e : PcapEnd) → head_of new ≡ Err e → has_head new ≡ false
+bad_none new e h = ap (λ (r : Result FileHead PcapEnd). nat_le 24 (length new) && is_ok r) h ∙ and_false (nat_le 24 (length new))
+
+pub few_none : (new : List ℕ) → length new < 24 → has_head new ≡ false
+few_none new few = let e = lt-leb 24 (length new) few in rw e refl
+
+head_there : (head : FileHead) (new more : List ℕ) → 24 ≤ length new → head_of new ≡ Ok head → has_head (new ++ more) ≡ true
+head_there head new more le h =
+    let len = length-append new more in
+    let all : nat_le 24 (length (new ++ more)) ≡ true = le-leb 24 (length (new ++ more)) (omega arith) in
+    rw all (ap is_ok (head_append new more le ∙ h))
 
 -- where fewer than 24 bytes came
 few_is : (new : List ℕ) (stop : Stop) → length new < 24 → records new stop ≡ ended (cut_off stop (length new) ShortHead)
 unfolding records
 few_is new stop few = let e = lt-ltb (length new) 24 few in rw e refl
 
-pub head_ends : (f : Filled) (new : List ℕ) (now : Option (List ℕ)) → (f ≡ filled.Enough → ⊥) → Tells f 24 0 new now → Ends records 0 new now (end_of_head f (length new))
-head_ends filled.Enough new now other t = absurd (other refl)
-head_ends filled.AtEnd new now other t = (few_is new AtEnd t.0, t.1, t.2)
-head_ends filled.Failed new now other t = few_is new Failed t.0
-head_ends filled.AtBound new now other t = (few_is new AtBound t.0, t.1)
-head_ends filled.Memory new now other t = tt
+pub head_ends : (new seen : List ℕ) (now : Option (List ℕ)) (taken : ℕ) (stop : Stop) (e : PcapEnd) → length new < 24 → Stops stop now taken → seen ≡ new → e ≡ cut_off stop (length seen) ShortHead → Ends records new now taken e
+head_ends new seen now taken stop e few why same is =
+    subst (Ends records new now taken) (sym (is ∙ ap (λ (xs : List ℕ). cut_off stop (length xs) ShortHead) same)) (by stop why)
+  where
+    by : (stop : Stop) → Stops stop now taken → Ends records new now taken (cut_off stop (length new) ShortHead)
+    by AtEnd why = (few_is new AtEnd few, why)
+    by Failed why = (few_is new Failed few, why)
+    by AtBound why = (few_is new AtBound few, why)
 
-pub takes_head : (X : Type 0) (f : Filled) (count : ℕ) (old new : List ℕ) (x y : Option (List ℕ)) → Takes f old new x y → Takes (held_by {X = X} (Err (end_of_head f count))) old new x y
-takes_head X filled.Enough count old new x y t = record { took = t.took; left = t.left; held = tt }
-takes_head X filled.AtEnd count old new x y t = record { took = t.took; left = t.left; held = t.held }
-takes_head X filled.Failed count old new x y t = record { took = t.took; left = t.left; held = t.held }
-takes_head X filled.AtBound count old new x y t = record { took = t.took; left = t.left; held = t.held }
-takes_head X filled.Memory count old new x y t = record { took = t.took; left = t.left; held = tt }
-
-pub counts_head : (X : Type 0) (f : Filled) (count before now : ℕ) → Counts f before now → CountsBy {X = X} (Err (end_of_head f count)) before now
-counts_head X filled.Enough count before now t = t
-counts_head X filled.AtEnd count before now t = t
-counts_head X filled.Failed count before now t = t
-counts_head X filled.AtBound count before now t = t
-counts_head X filled.Memory count before now t = t
+pub head_counts : (X : Type 0) (stop : Stop) (count before now : ℕ) (e : PcapEnd) → Counts (Ok (Stopped stop)) before now → e ≡ cut_off stop count ShortHead → CountsBy {X = X} (Err e) before now
+head_counts X stop count before now e counts is = subst (λ (x : PcapEnd). CountsBy {X = X} (Err x) before now) (sym is) (by stop counts)
+  where
+    by : (stop : Stop) → Counts (Ok (Stopped stop)) before now → CountsBy {X = X} (Err (cut_off stop count ShortHead)) before now
+    by AtEnd counts = counts
+    by Failed counts = counts
+    by AtBound counts = counts
 
 -- bytes that were taken in front of others
 regroup : (old took w more : List ℕ) → w ≡ old ++ took → old ++ (took ++ more) ≡ w ++ more
 regroup old took w more h = sym (append_assoc old took more) ∙ ap (λ (xs : List ℕ). xs ++ more) (sym h)
 
 -- a whole record is given
-pub steps_next : (head : FileHead) (offset size : ℕ) (old w held : List ℕ) (x y : Option (List ℕ)) (r : Captured)
-    → Takes filled.Enough old w x y → IsWhole head offset size w → r ≡ record_of head w → held ≡ drop size w
-    → StepsTo (records_from head offset) (records_from head (offset + (16 + r.captured))) old held x y r
-steps_next head offset size old w held x y r t whole is rest =
-    let captured : r.captured ≡ captured_of head w = ap (λ (c : Captured). c.captured) is in
+pub steps_next : (head : FileHead) (offset size : ℕ) (old w new : Hold) (seen : List ℕ) (x y : Option (List ℕ)) (r : Captured)
+    → Takes old w x y → IsWhole head size w.bytes → r ≡ record_of head seen → seen ≡ w.bytes → new.bytes ≡ drop size w.bytes
+    → StepsTo (records_from head offset) (records_from head (offset + (16 + r.captured))) old.bytes new.bytes x y r
+steps_next head offset size old w new seen x y r t whole made same rest =
+    let is : r ≡ record_of head w.bytes = made ∙ ap (record_of head) same in
+    let captured : r.captured ≡ captured_of head w.bytes = ap (λ (c : Captured). c.captured) is in
     let size_is = whole.size_is in
     let behind : offset + size ≡ offset + (16 + r.captured) = omega arith in
     record {
       took = t.took;
       left = t.left;
-      is = λ more stop. ap (λ (xs : List ℕ). records_from head offset xs stop) (regroup old t.took w more t.held)
-          ∙ first_record head offset size w whole more stop
-          ∙ ap (λ (c : Captured). first c (records_from head (offset + size) (drop size w ++ more) stop)) (sym is)
-          ∙ ap (λ (n : ℕ). first r (records_from head n (drop size w ++ more) stop)) behind
+      is = λ more stop. ap (λ (xs : List ℕ). records_from head offset xs stop) (regroup old.bytes t.took w.bytes more t.held)
+          ∙ first_record head offset size w.bytes whole more stop
+          ∙ ap (λ (c : Captured). first c (records_from head (offset + size) (drop size w.bytes ++ more) stop)) (sym is)
+          ∙ ap (λ (n : ℕ). first r (records_from head n (drop size w.bytes ++ more) stop)) behind
           ∙ ap (λ (xs : List ℕ). first r (records_from head (offset + (16 + r.captured)) (xs ++ more) stop)) (sym rest);
     }
 
--- behind a file head
-pub steps_open : (head : FileHead) (come : List ℕ → Stop → Answers) (old w held after : List ℕ) (x m y : Option (List ℕ)) (r : Captured)
-    → Takes filled.Enough old w x m → 24 ≤ length w → head_of w ≡ Ok head → held ≡ drop 24 w → StepsTo (records_from head 24) come held after m y r
-    → StepsTo records come old after x y r
-steps_open head come old w held after x m y r t le h rest next =
-    record {
-      took = t.took ++ next.took;
-      left = t.left ∙ ap (prepend_known t.took) next.left ∙ prepend_twice t.took next.took y;
-      is = λ more stop. ap (λ (xs : List ℕ). records (old ++ xs) stop) (append_assoc t.took next.took more)
-          ∙ ap (λ (xs : List ℕ). records xs stop) (regroup old t.took w (next.took ++ more) t.held)
-          ∙ opened head w (next.took ++ more) stop le h
-          ∙ ap (λ (xs : List ℕ). records_from head 24 (xs ++ (next.took ++ more)) stop) (sym rest)
-          ∙ next.is more stop;
-    }
-
-pub closes_open : (head : FileHead) (old w held : List ℕ) (x m y : Option (List ℕ)) (e : PcapEnd)
-    → Takes filled.Enough old w x m → 24 ≤ length w → head_of w ≡ Ok head → held ≡ drop 24 w → ClosesAs (records_from head 24) 24 held m y e
-    → ClosesAs records 0 old x y e
-closes_open head old w held x m y e t le h rest closes =
-    record {
-      took = t.took ++ closes.took;
-      left = t.left ∙ ap (prepend_known t.took) closes.left ∙ prepend_twice t.took closes.took y;
-      is = by e closes.is;
-    }
+-- an end of what is to come by other bytes, if what is to come is the same
+ends_same : (come come' : List ℕ → Stop → Answers) (new new' : List ℕ) (now : Option (List ℕ)) (taken : ℕ) (e : PcapEnd)
+    → ((more : List ℕ) (stop : Stop) → come (new ++ more) stop ≡ come' (new' ++ more) stop) → Ends come' new' now taken e → Ends come new now taken e
+ends_same come come' new new' now taken e same ends = by e ends
   where
-    long : 0 + length (old ++ (t.took ++ closes.took)) ≡ 24 + length (held ++ closes.took)
-    long =
-        let a = ap length (regroup old t.took w closes.took t.held) in
-        let b = length-append w closes.took in
-        let d = length-append held closes.took in
-        let f = ap length rest in
-        let k = length-drop 24 w in
-        omega arith
+    here : (stop : Stop) → come new stop ≡ come' new' stop
+    here stop = ap (λ (xs : List ℕ). come xs stop) (sym (append-nil new)) ∙ same [] stop ∙ ap (λ (xs : List ℕ). come' xs stop) (append-nil new')
 
-    at : (stop : Stop) → records (old ++ (t.took ++ closes.took)) stop ≡ records_from head 24 (held ++ closes.took) stop
-    at stop = ap (λ (xs : List ℕ). records xs stop) (regroup old t.took w closes.took t.held) ∙ opened head w closes.took stop le h
-        ∙ ap (λ (xs : List ℕ). records_from head 24 (xs ++ closes.took) stop) (sym rest)
-
-    more_at : (more : List ℕ) (stop : Stop) → records ((old ++ (t.took ++ closes.took)) ++ more) stop ≡ records_from head 24 ((held ++ closes.took) ++ more) stop
-    more_at more stop =
-        ap (λ (xs : List ℕ). records (xs ++ more) stop) (regroup old t.took w closes.took t.held)
-        ∙ ap (λ (xs : List ℕ). records xs stop) (append_assoc w closes.took more)
-        ∙ opened head w (closes.took ++ more) stop le h
-        ∙ ap (λ (xs : List ℕ). records_from head 24 (xs ++ (closes.took ++ more)) stop) (sym rest)
-        ∙ ap (λ (xs : List ℕ). records_from head 24 xs stop) (sym (append_assoc held closes.took more))
-
-    by : (e : PcapEnd) → Ends (records_from head 24) 24 (held ++ closes.took) y e → Ends records 0 (old ++ (t.took ++ closes.took)) y e
-    by Done p = (at AtEnd ∙ p.0, subst (λ (n : ℕ). n < most_bytes) (sym long) p.1, p.2)
-    by (Fault o ShortHead) p = (at AtEnd ∙ p.0, subst (λ (n : ℕ). n < most_bytes) (sym long) p.1, p.2)
-    by (Fault o ShortRecord) p = (at AtEnd ∙ p.0, subst (λ (n : ℕ). n < most_bytes) (sym long) p.1, p.2)
-    by (Fault o BadMagic) p = λ more stop. more_at more stop ∙ p more stop
-    by (Fault o VersionUnknown) p = λ more stop. more_at more stop ∙ p more stop
-    by (Fault o LinkUnknown) p = λ more stop. more_at more stop ∙ p more stop
-    by (Fault o RecordTooLong) p = λ more stop. more_at more stop ∙ p more stop
-    by ReadFault p = at Failed ∙ p
-    by TooLong p = (at AtBound ∙ p.0, long ∙ p.1)
+    by : (e : PcapEnd) → Ends come' new' now taken e → Ends come new now taken e
+    by Done p = (here AtEnd ∙ p.0, p.1)
+    by (Fault o ShortHead) p = (here AtEnd ∙ p.0, p.1)
+    by (Fault o ShortRecord) p = (here AtEnd ∙ p.0, p.1)
+    by (Fault o BadMagic) p = λ more stop. same more stop ∙ p more stop
+    by (Fault o VersionUnknown) p = λ more stop. same more stop ∙ p more stop
+    by (Fault o LinkUnknown) p = λ more stop. same more stop ∙ p more stop
+    by (Fault o RecordTooLong) p = λ more stop. same more stop ∙ p more stop
+    by ReadFault p = (here Failed ∙ p.0, p.1)
+    by TooLong p = (here AtBound ∙ p.0, p.1)
     by Memory p = tt
+
+-- once the file head is there, what comes behind it is what is still to come
+pub begins : (head : FileHead) (old mid new : Reading) (w : List ℕ) (took : List ℕ) (x m y : Option (List ℕ)) (r : Result Captured PcapEnd)
+    → old.phase ≡ Start → mid.phase ≡ Records head 24 → mid.held ≡ drop 24 w → mid.given ≡ old.given
+    → w ≡ old.held ++ took → x ≡ prepend_known took m → 24 ≤ length w → head_of w ≡ Ok head → Answer mid new m y r → Answer old new x y r
+begins head old mid new w took x m y r start records_is rest given held left le h answer = by r answer
+  where
+    come : (two more : List ℕ) (stop : Stop) → to_come old ((took ++ two) ++ more) stop ≡ to_come mid (two ++ more) stop
+    come two more stop =
+        ap (λ (xs : List ℕ). to_come old xs stop) (append_assoc took two more)
+        ∙ ap (λ (p : Phase). come_from p (old.held ++ (took ++ (two ++ more))) stop) start
+        ∙ ap (λ (xs : List ℕ). records xs stop) (regroup old.held took w (two ++ more) held)
+        ∙ opened head w (two ++ more) stop le h
+        ∙ ap (λ (xs : List ℕ). records_from head 24 (xs ++ (two ++ more)) stop) (sym rest)
+        ∙ ap (λ (p : Phase). come_from p (mid.held ++ (two ++ more)) stop) (sym records_is)
+
+    there : (two : List ℕ) → headed_by old.phase (old.held ++ (took ++ two)) ≡ true
+    there two =
+        ap (λ (p : Phase). headed_by p (old.held ++ (took ++ two))) start
+        ∙ ap has_head (regroup old.held took w two held) ∙ head_there head w two le h
+
+    before : (two : List ℕ) → headed_by mid.phase (mid.held ++ two) ≡ true
+    before two = ap (λ (p : Phase). headed_by p (mid.held ++ two)) records_is
+
+    by : (r : Result Captured PcapEnd) → Answer mid new m y r → Answer old new x y r
+    by (Ok r) answer = record {
+      took = took ++ answer.took;
+      left = left ∙ ap (prepend_known took) answer.left ∙ prepend_twice took answer.took y;
+      is = λ more stop. come answer.took more stop ∙ answer.is more stop;
+      count = omega (arith, answer.count);
+      head = there answer.took;
+      headed = answer.headed;
+    }
+    by (Err e) answer = record {
+      took = took ++ answer.took;
+      left = left ∙ ap (prepend_known took) answer.left ∙ prepend_twice took answer.took y;
+      is = ends_same (come_from old.phase) (come_from mid.phase) (old.held ++ (took ++ answer.took)) (mid.held ++ answer.took) y new.taken e (λ more stop.
+          ap (λ (xs : List ℕ). come_from old.phase xs stop) (append_assoc old.held (took ++ answer.took) more)
+          ∙ come answer.took more stop
+          ∙ ap (λ (xs : List ℕ). come_from mid.phase xs stop) (sym (append_assoc mid.held answer.took more))) answer.is;
+      stays = answer.stays ∙ ap (λ (b : Bool). Ended e b) (before answer.took ∙ sym (there answer.took));
+    }

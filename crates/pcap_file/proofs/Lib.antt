@@ -1,3 +1,2 @@
-mod ByteLemmas
-mod RecordLemmas
-mod HeadLemmas
+pub mod RecordLemmas
+pub mod HeadLemmas

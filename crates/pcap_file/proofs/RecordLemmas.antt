@@ -1,24 +1,26 @@
 -- The records of bytes, case by case, and with more bytes behind.
-use Rattle.std.proofs.Common.{◌≡◌, ℕ, zero, suc, ◌+◌, ◌<◌, ◌≤◌, ◌==◌, Bool, true, false, nat_lt, if◌then◌else◌, List, [], ◌∷◌, ◌++◌, length, take, drop, Option, Err, refl, sym, ap, ◌∙◌, arith, length-append}
+use Rattle.std.proofs.Common.{◌≡◌, ℕ, zero, suc, ◌+◌, ◌<◌, ◌≤◌, ◌==◌, Bool, true, false, nat_lt, if◌then◌else◌, List, [], ◌∷◌, ◌++◌, length, take, drop, Option, Ok, Err, refl, sym, ap, ◌∙◌, subst, arith, length-append}
 use Rattle.std.proofs.lemmas.Bool.{lt-ltb, le-ltb, eqb-true}
 use Rattle.std.proofs.lemmas.List.{drop-append-le, take-append-le, length-drop}
 use Rattle.byteorder.specs.Endian.{big_number, little_number}
 use Rattle.byteorder.specs.Numbers.{big_from-append, little_from-append}
-use Rattle.vast_io.specs.Told.{IsAtEnd}
 use Rattle.pcap_file.specs.Heads.{number_at}
-use Rattle.pcap_file.specs.Records.{Answers, Stop, AtEnd, Failed, AtBound, end_of, cut_off, ended, first, records_within, records_from, record_of, captured_of, size_of_record, nanoseconds, end_after, Ends, IsWhole, held_by, CountsBy}
-use Rattle.pcap_file.specs.Taking.{most_bytes, Takes, Tells, Counts}
-use Rattle.pcap_file.specs.declared.head.Order.{Order}
-use Rattle.pcap_file.specs.declared.head.Order.TheVariants.{Big, Little}
+use Rattle.pcap_file.specs.Records.{Answers, end_of, cut_off, ended, first, records_within, records_from, record_of, captured_of, size_of_record, nanoseconds, end_after, Ends, IsWhole, CountsBy}
+use Rattle.source_block.specs.Holding.{Hold}
+use Rattle.source_block.specs.Taking.{Takes, Stops, Counts}
+use Rattle.source_block.specs.declared.stop.Stop.{Stop}
+use Rattle.source_block.specs.declared.stop.Stop.TheVariants.{AtEnd, Failed, AtBound}
+use Rattle.source_block.specs.declared.stop.Took.TheVariants.{Stopped}
+use Rattle.pcap_file.specs.declared.head.Endian.{Endian}
+use Rattle.pcap_file.specs.declared.head.Endian.TheVariants.{Big, Little}
 use Rattle.pcap_file.specs.declared.head.FileHead.{FileHead}
 use Rattle.pcap_file.specs.declared.record.Captured.{Captured}
-use Rattle.pcap_file.specs.declared.end.PcapEnd.TheVariants.{Fault, ReadFault, TooLong}
+use Rattle.pcap_file.specs.declared.end.PcapEnd.{PcapEnd}
+use Rattle.pcap_file.specs.declared.end.PcapEnd.TheVariants.{Fault}
 use Rattle.pcap_file.specs.declared.end.CaptureFault.TheVariants.{RecordTooLong, ShortRecord}
-use Rattle.pcap_file.specs.declared.fill.Filled.{Filled}
-use Rattle.pcap_file.specs.declared.fill.Filled.TheVariants as filled
 
 -- a number isn't changed by bytes behind
-pub number_append : (order : Order) (n place : ℕ) (new more : List ℕ) → place + n ≤ length new → number_at order n place (new ++ more) ≡ number_at order n place new
+pub number_append : (endian : Endian) (n place : ℕ) (new more : List ℕ) → place + n ≤ length new → number_at endian n place (new ++ more) ≡ number_at endian n place new
 number_append Big n place new more le =
     let at : place ≤ length new = omega arith in
     let within : n ≤ length (drop place new) = omega (arith, length-drop place new) in
@@ -29,20 +31,20 @@ number_append Little n place new more le =
     ap (little_number n) (drop-append-le place new more at) ∙ little_from-append n (drop place new) more within
 
 pub captured_append : (head : FileHead) (new more : List ℕ) → 16 ≤ length new → captured_of head (new ++ more) ≡ captured_of head new
-captured_append head new more le = number_append head.magic.order 4 8 new more (omega arith)
+captured_append head new more le = number_append head.magic.endian 4 8 new more (omega arith)
 
 -- what a record tells as captured stays when more bytes come
-pub captured_taken : (head : FileHead) (old new : List ℕ) (x y : Option (List ℕ)) → 16 ≤ length old → Takes filled.Enough old new x y → captured_of head new ≡ captured_of head old
-captured_taken head old new x y some t = ap (captured_of head) t.held ∙ captured_append head old t.took some
+pub captured_taken : (head : FileHead) (old new : Hold) (x y : Option (List ℕ)) → 16 ≤ length old.bytes → Takes old new x y → captured_of head new.bytes ≡ captured_of head old.bytes
+captured_taken head old new x y some t = ap (captured_of head) t.held ∙ captured_append head old.bytes t.took some
 
 -- nor is a whole record
 record_append : (head : FileHead) (new more : List ℕ) → size_of_record head new ≤ length new → record_of head (new ++ more) ≡ record_of head new
 record_append head new more le =
-    let order = head.magic.order in
-    let seconds = number_append order 4 0 new more (omega arith) in
-    let part = number_append order 4 4 new more (omega arith) in
+    let endian = head.magic.endian in
+    let seconds = number_append endian 4 0 new more (omega arith) in
+    let part = number_append endian 4 4 new more (omega arith) in
     let captured = captured_append head new more (omega arith) in
-    let original = number_append order 4 12 new more (omega arith) in
+    let original = number_append endian 4 12 new more (omega arith) in
     let behind : drop 16 (new ++ more) ≡ drop 16 new ++ more = drop-append-le 16 new more (omega arith) in
     let within : captured_of head new ≤ length (drop 16 new) = omega (arith, length-drop 16 new) in
     let bytes : take (captured_of head (new ++ more)) (drop 16 (new ++ more)) ≡ take (captured_of head new) (drop 16 new) =
@@ -131,7 +133,7 @@ too_long head offset new some long more stop =
     from_long head offset (new ++ more) stop (omega arith) (omega arith)
 
 -- a whole record is the first
-pub first_record : (head : FileHead) (offset size : ℕ) (new : List ℕ) → IsWhole head offset size new
+pub first_record : (head : FileHead) (offset size : ℕ) (new : List ℕ) → IsWhole head size new
     → (more : List ℕ) (stop : Stop) → records_from head offset (new ++ more) stop ≡ first (record_of head new) (records_from head (offset + size) (drop size new ++ more) stop)
 first_record head offset size new w more stop =
     let size_is = w.size_is in
@@ -146,78 +148,48 @@ first_record head offset size new w more stop =
     ∙ ap (λ (n : ℕ). first (record_of head new) (records_from head (offset + n) (drop n (new ++ more)) stop)) size_same
     ∙ ap (λ (xs : List ℕ). first (record_of head new) (records_from head (offset + size) xs stop)) behind
 
+-- why the bytes of a record didn't all come
+end_is : (come : List ℕ → Stop → Answers) (offset : ℕ) (new : List ℕ) (now : Option (List ℕ)) (taken : ℕ) (stop : Stop) (nothing : Bool)
+    → come new stop ≡ ended (end_after stop nothing offset) → Stops stop now taken → Ends come new now taken (end_after stop nothing offset)
+end_is come offset new now taken AtEnd true is why = (is, why)
+end_is come offset new now taken AtEnd false is why = (is, why)
+end_is come offset new now taken Failed true is why = (is, why)
+end_is come offset new now taken Failed false is why = (is, why)
+end_is come offset new now taken AtBound true is why = (is, why)
+end_is come offset new now taken AtBound false is why = (is, why)
+
 -- where fewer than 16 bytes came
-few_end : (head : FileHead) (offset : ℕ) (new : List ℕ) → length new < 16 → (nothing : Bool) → nothing ≡ (length new == 0) → records_from head offset new AtEnd ≡ ended (end_after filled.AtEnd nothing offset)
-few_end head offset [] few true e = from_nothing head offset AtEnd
-few_end head offset [] few false e = let f : false ≡ true = e in cc
-few_end head offset (b ∷ new) few true e = let z = eqb-true (length (b ∷ new)) 0 (sym e) in absurd (omega arith)
-few_end head offset (b ∷ new) few false e = from_few head offset (b ∷ new) AtEnd (omega arith) few
+few_is : (head : FileHead) (offset : ℕ) (new : List ℕ) (stop : Stop) (nothing : Bool) → length new < 16 → nothing ≡ (length new == 0) → records_from head offset new stop ≡ ended (end_after stop nothing offset)
+few_is head offset [] stop true few e = from_nothing head offset stop
+few_is head offset [] stop false few e = let f : false ≡ true = e in absurd cc
+few_is head offset (b ∷ new) stop true few e = let z = eqb-true (length (b ∷ new)) 0 (sym e) in absurd (omega arith)
+few_is head offset (b ∷ new) stop false few e = from_few head offset (b ∷ new) stop (omega arith) few
 
-few_failed : (head : FileHead) (offset : ℕ) (new : List ℕ) → length new < 16 → records_from head offset new Failed ≡ ended ReadFault
-few_failed head offset [] few = from_nothing head offset Failed
-few_failed head offset (b ∷ new) few = from_few head offset (b ∷ new) Failed (omega arith) few
-
-few_bound : (head : FileHead) (offset : ℕ) (new : List ℕ) → length new < 16 → records_from head offset new AtBound ≡ ended TooLong
-few_bound head offset [] few = from_nothing head offset AtBound
-few_bound head offset (b ∷ new) few = from_few head offset (b ∷ new) AtBound (omega arith) few
-
-end_done : (come : List ℕ → Stop → Answers) (offset : ℕ) (new : List ℕ) (now : Option (List ℕ)) (nothing : Bool) → come new AtEnd ≡ ended (end_after filled.AtEnd nothing offset) → offset + length new < most_bytes → IsAtEnd now
-    → Ends come offset new now (end_after filled.AtEnd nothing offset)
-end_done come offset new now true e lt at = (e, lt, at)
-end_done come offset new now false e lt at = (e, lt, at)
-
-pub few_ends : (f : Filled) (head : FileHead) (offset : ℕ) (new : List ℕ) (now : Option (List ℕ)) (nothing : Bool) → (f ≡ filled.Enough → ⊥) → nothing ≡ (length new == 0) → Tells f 16 offset new now
-    → Ends (records_from head offset) offset new now (end_after f nothing offset)
-few_ends filled.Enough head offset new now nothing other e t = absurd (other refl)
-few_ends filled.AtEnd head offset new now nothing other e t = end_done (records_from head offset) offset new now nothing (few_end head offset new t.0 nothing e) t.1 t.2
-few_ends filled.Failed head offset new now nothing other e t = few_failed head offset new t.0
-few_ends filled.AtBound head offset new now nothing other e t = (few_bound head offset new t.0, t.1)
-few_ends filled.Memory head offset new now nothing other e t = tt
+pub few_ends : (head : FileHead) (offset : ℕ) (new seen : List ℕ) (now : Option (List ℕ)) (taken : ℕ) (stop : Stop) (nothing : Bool) (e : PcapEnd)
+    → length new < 16 → Stops stop now taken → nothing ≡ (length seen == 0) → seen ≡ new → e ≡ end_after stop nothing offset → Ends (records_from head offset) new now taken e
+few_ends head offset new seen now taken stop nothing e few why none same is =
+    subst (Ends (records_from head offset) new now taken) (sym is)
+    (end_is (records_from head offset) offset new now taken stop nothing (few_is head offset new stop nothing few (none ∙ ap (λ (xs : List ℕ). length xs == 0) same)) why)
 
 -- where a record's bytes didn't all come
-pub cut_ends : (f : Filled) (head : FileHead) (offset need : ℕ) (old new : List ℕ) (x now : Option (List ℕ)) → (f ≡ filled.Enough → ⊥) → 16 ≤ length old → captured_of head old ≤ 262144 → need ≡ size_of_record head old
-    → Takes f old new x now → Tells f need offset new now → Ends (records_from head offset) offset new now (end_after f false offset)
-cut_ends filled.Enough head offset need old new x now other some short size takes t = absurd (other refl)
-cut_ends filled.AtEnd head offset need old new x now other some short size takes t =
-    let len = length-append old takes.took ∙ refl in
+pub cut_ends : (head : FileHead) (offset size : ℕ) (old new : Hold) (x now : Option (List ℕ)) (stop : Stop) (e : PcapEnd)
+    → 16 ≤ length old.bytes → captured_of head old.bytes ≤ 262144 → size ≡ size_of_record head old.bytes → Takes old new x now
+    → length new.bytes < size → Stops stop now new.taken → e ≡ end_after stop false offset → Ends (records_from head offset) new.bytes now new.taken e
+cut_ends head offset size old new x now stop e some short is takes few why end =
+    let len = length-append old.bytes takes.took in
     let now_len = ap length takes.held in
-    let same = ap (captured_of head) takes.held ∙ captured_append head old takes.took some in
-    let under = t.0 in
-    (from_cut head offset new AtEnd (omega arith) (omega arith) (omega arith), t.1, t.2)
-cut_ends filled.Failed head offset need old new x now other some short size takes t =
-    let len = length-append old takes.took ∙ refl in
-    let now_len = ap length takes.held in
-    let same = ap (captured_of head) takes.held ∙ captured_append head old takes.took some in
-    let under = t.0 in
-    from_cut head offset new Failed (omega arith) (omega arith) (omega arith)
-cut_ends filled.AtBound head offset need old new x now other some short size takes t =
-    let len = length-append old takes.took ∙ refl in
-    let now_len = ap length takes.held in
-    let same = ap (captured_of head) takes.held ∙ captured_append head old takes.took some in
-    let under = t.0 in
-    (from_cut head offset new AtBound (omega arith) (omega arith) (omega arith), t.1)
-cut_ends filled.Memory head offset need old new x now other some short size takes t = tt
+    let same = captured_taken head old new x now some takes in
+    subst (Ends (records_from head offset) new.bytes now new.taken) (sym end)
+    (end_is (records_from head offset) offset new.bytes now new.taken stop false (from_cut head offset new.bytes stop (omega arith) (omega arith) (omega arith)) why)
 
--- what else an end says
-pub takes_end : (X : Type 0) (f : Filled) (nothing : Bool) (offset : ℕ) (old new : List ℕ) (x y : Option (List ℕ)) → Takes f old new x y → Takes (held_by {X = X} (Err (end_after f nothing offset))) old new x y
-takes_end X filled.Enough nothing offset old new x y t = record { took = t.took; left = t.left; held = tt }
-takes_end X filled.AtEnd true offset old new x y t = record { took = t.took; left = t.left; held = t.held }
-takes_end X filled.AtEnd false offset old new x y t = record { took = t.took; left = t.left; held = t.held }
-takes_end X filled.Failed nothing offset old new x y t = record { took = t.took; left = t.left; held = t.held }
-takes_end X filled.AtBound nothing offset old new x y t = record { took = t.took; left = t.left; held = t.held }
-takes_end X filled.Memory nothing offset old new x y t = record { took = t.took; left = t.left; held = tt }
-
-pub room_end : (f : Filled) (need offset : ℕ) (new : List ℕ) (now : Option (List ℕ)) → Tells f need offset new now → offset + length new ≤ most_bytes
-room_end filled.Enough need offset new now t = t.1
-room_end filled.AtEnd need offset new now t = let lt = t.1 in omega arith
-room_end filled.Failed need offset new now t = t.1
-room_end filled.AtBound need offset new now t = let e = t.1 in omega arith
-room_end filled.Memory need offset new now t = t
-
-pub counts_end : (X : Type 0) (f : Filled) (nothing : Bool) (offset before now : ℕ) → Counts f before now → CountsBy {X = X} (Err (end_after f nothing offset)) before now
-counts_end X filled.Enough nothing offset before now t = t
-counts_end X filled.AtEnd true offset before now t = t
-counts_end X filled.AtEnd false offset before now t = t
-counts_end X filled.Failed nothing offset before now t = t
-counts_end X filled.AtBound nothing offset before now t = t
-counts_end X filled.Memory nothing offset before now t = t
+-- a failed read is the end exactly where the count of faults rose
+pub end_counts : (X : Type 0) (stop : Stop) (nothing : Bool) (offset before now : ℕ) (e : PcapEnd) → Counts (Ok (Stopped stop)) before now → e ≡ end_after stop nothing offset → CountsBy {X = X} (Err e) before now
+end_counts X stop nothing offset before now e counts is = subst (λ (x : PcapEnd). CountsBy {X = X} (Err x) before now) (sym is) (by stop nothing counts)
+  where
+    by : (stop : Stop) (nothing : Bool) → Counts (Ok (Stopped stop)) before now → CountsBy {X = X} (Err (end_after stop nothing offset)) before now
+    by AtEnd true counts = counts
+    by AtEnd false counts = counts
+    by Failed true counts = counts
+    by Failed false counts = counts
+    by AtBound true counts = counts
+    by AtBound false counts = counts

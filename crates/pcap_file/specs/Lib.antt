@@ -1,4 +1,3 @@
 pub mod Heads
 pub mod Records
-pub mod Taking
 pub mod Reading

@@ -2,10 +2,9 @@
 use Rattle.std.specs.Prelude.{◌≡◌, ◌≤◌, ◌++◌, Bool, true, false, Option, ℕ, zero, suc, ℤ, pos, ◌+◌, ◌*◌, ◌<◌, nat_lt, if◌then◌else◌, List, [], ◌∷◌, length, take, drop, Result, Ok, Err}
 use Rattle.std.specs.Io.KnownBytes.{prepend_known}
 use Rattle.vast_io.specs.Causes.{Rose}
-use Rattle.vast_io.specs.Told.{IsAtEnd}
-use Rattle.pcap_file.specs.Taking.{most_bytes}
-use Rattle.pcap_file.specs.declared.fill.Filled.{Filled}
-use Rattle.pcap_file.specs.declared.fill.Filled.TheVariants as filled
+use Rattle.source_block.specs.Taking.{Stops}
+use Rattle.source_block.specs.declared.stop.Stop.{Stop}
+use Rattle.source_block.specs.declared.stop.Stop.TheVariants.{AtEnd, Failed, AtBound}
 use Rattle.pcap_file.specs.Heads.{number_at, head_of}
 use Rattle.pcap_file.specs.declared.head.Fraction.{Fraction}
 use Rattle.pcap_file.specs.declared.head.Fraction.TheVariants.{Micro, Nano}
@@ -15,12 +14,6 @@ use Rattle.pcap_file.specs.declared.end.PcapEnd.{PcapEnd}
 use Rattle.pcap_file.specs.declared.end.PcapEnd.TheVariants.{Done, Fault, ReadFault, TooLong, Memory}
 use Rattle.pcap_file.specs.declared.end.CaptureFault.{CaptureFault}
 use Rattle.pcap_file.specs.declared.end.CaptureFault.TheVariants.{RecordTooLong, ShortHead, ShortRecord}
-
--- why no more bytes come: they are all there, a read failed, or 2^36 were taken
-pub data Stop : Type 0 where
-  AtEnd : Stop
-  Failed : Stop
-  AtBound : Stop
 
 abbrev pub end_of : Stop → PcapEnd
 end_of AtEnd = Done
@@ -40,7 +33,7 @@ nanoseconds Nano seconds part = pos (seconds * 1_000_000_000 + part)
 
 -- how many bytes a record tells as captured, and how many it has with its head of 16
 abbrev pub captured_of : FileHead → List ℕ → ℕ
-captured_of head bytes = number_at head.magic.order 4 8 bytes
+captured_of head bytes = number_at head.magic.endian 4 8 bytes
 
 abbrev pub size_of_record : FileHead → List ℕ → ℕ
 size_of_record head bytes = 16 + captured_of head bytes
@@ -48,9 +41,9 @@ size_of_record head bytes = 16 + captured_of head bytes
 -- the record that the bytes begin with
 abbrev pub record_of : FileHead → List ℕ → Captured
 record_of head bytes = record {
-  time = nanoseconds head.magic.fraction (number_at head.magic.order 4 0 bytes) (number_at head.magic.order 4 4 bytes);
+  time = nanoseconds head.magic.fraction (number_at head.magic.endian 4 0 bytes) (number_at head.magic.endian 4 4 bytes);
   captured = captured_of head bytes;
-  original = number_at head.magic.order 4 12 bytes;
+  original = number_at head.magic.endian 4 12 bytes;
   link = head.link;
   bytes = take (captured_of head bytes) (drop 16 bytes);
 }
@@ -92,21 +85,20 @@ records bytes stop =
     if nat_lt (length bytes) 24 then ended (cut_off stop (length bytes) ShortHead)
     else records_behind (head_of bytes) bytes stop
 
--- what is still to come of a capture, by all bytes from here on, ends here: `new` are those that were taken, the first
--- of which is at this offset, and `now` those that the source has left
-abbrev pub Ends : (List ℕ → Stop → Answers) → ℕ → List ℕ → Option (List ℕ) → PcapEnd → Type 0
-Ends come offset new now Done = (come new AtEnd ≡ ended Done) × (offset + length new < most_bytes) × IsAtEnd now
-Ends come offset new now (Fault at ShortHead) = (come new AtEnd ≡ ended (Fault at ShortHead)) × (offset + length new < most_bytes) × IsAtEnd now
-Ends come offset new now (Fault at ShortRecord) = (come new AtEnd ≡ ended (Fault at ShortRecord)) × (offset + length new < most_bytes) × IsAtEnd now
-Ends come offset new now (Fault at what) = (more : List ℕ) (stop : Stop) → come (new ++ more) stop ≡ ended (Fault at what)
-Ends come offset new now ReadFault = come new Failed ≡ ended ReadFault
-Ends come offset new now TooLong = (come new AtBound ≡ ended TooLong) × (offset + length new ≡ most_bytes)
-Ends come offset new now Memory = Unit {0}
+-- by the bytes that were taken and the reason why no more were, all that is still to come is this end
+abbrev pub EndsBy : Stop → (List ℕ → Stop → Answers) → List ℕ → Option (List ℕ) → ℕ → PcapEnd → Type 0
+EndsBy stop come new now taken e = (come new stop ≡ ended e) × Stops stop now taken
 
--- where memory was found, all that was taken is held
-abbrev pub held_by : {X : Type 0} → Result X PcapEnd → Filled
-held_by (Err Memory) = filled.Memory
-held_by _ = filled.Enough
+-- All that is still to come is this end: `new` are the bytes that were taken from here on, `now` those that the source has
+-- left, and `taken` is how many were taken in all. A fault of a head or of a record's length stands whatever bytes follow.
+abbrev pub Ends : (List ℕ → Stop → Answers) → List ℕ → Option (List ℕ) → ℕ → PcapEnd → Type 0
+Ends come new now taken Done = EndsBy AtEnd come new now taken Done
+Ends come new now taken (Fault at ShortHead) = EndsBy AtEnd come new now taken (Fault at ShortHead)
+Ends come new now taken (Fault at ShortRecord) = EndsBy AtEnd come new now taken (Fault at ShortRecord)
+Ends come new now taken (Fault at what) = (more : List ℕ) (stop : Stop) → come (new ++ more) stop ≡ ended (Fault at what)
+Ends come new now taken ReadFault = EndsBy Failed come new now taken ReadFault
+Ends come new now taken TooLong = EndsBy AtBound come new now taken TooLong
+Ends come new now taken Memory = Unit {0}
 
 -- the source's count of faults rose exactly where a read failed
 abbrev pub CountsBy : {X : Type 0} → Result X PcapEnd → ℕ → ℕ → Type 0
@@ -114,27 +106,15 @@ CountsBy (Err ReadFault) before now = Rose before now
 CountsBy _ before now = now ≡ before
 
 -- the bytes held begin with a whole record of this size
-pub record IsWhole (head : FileHead) (offset size : ℕ) (new : List ℕ) : Type 0 where
+pub record IsWhole (head : FileHead) (size : ℕ) (new : List ℕ) : Type 0 where
   pub size_is : size ≡ size_of_record head new
   pub within : size ≤ length new
   pub short : captured_of head new ≤ 262144
 
--- why the bytes of a record didn't all come
-abbrev pub end_after : Filled → Bool → ℕ → PcapEnd
-end_after filled.AtEnd true offset = Done
-end_after filled.AtEnd false offset = Fault offset ShortRecord
-end_after filled.Failed nothing offset = ReadFault
-end_after filled.AtBound nothing offset = TooLong
-end_after filled.Memory nothing offset = Memory
-end_after filled.Enough nothing offset = Memory
-
--- why the bytes of a file head didn't all come; so many did
-abbrev pub end_of_head : Filled → ℕ → PcapEnd
-end_of_head filled.AtEnd count = Fault count ShortHead
-end_of_head filled.Failed count = ReadFault
-end_of_head filled.AtBound count = TooLong
-end_of_head filled.Memory count = Memory
-end_of_head filled.Enough count = Memory
+-- why the bytes of a record didn't all come, where none or some did
+abbrev pub end_after : Stop → Bool → ℕ → PcapEnd
+end_after stop true offset = end_of stop
+end_after stop false offset = cut_off stop offset ShortRecord
 
 -- by the bytes held and those to come, a record is the first of what is still to come, and leaves the rest
 pub record StepsTo (come rest : List ℕ → Stop → Answers) (old new : List ℕ) (before now : Option (List ℕ)) (r : Captured) : Type 0 where
@@ -143,7 +123,7 @@ pub record StepsTo (come rest : List ℕ → Stop → Answers) (old new : List �
   pub is : (more : List ℕ) (stop : Stop) → come (old ++ (took ++ more)) stop ≡ first r (rest (new ++ more) stop)
 
 -- and so is an end
-pub record ClosesAs (come : List ℕ → Stop → Answers) (offset : ℕ) (old : List ℕ) (before now : Option (List ℕ)) (e : PcapEnd) : Type 0 where
+pub record ClosesAs (come : List ℕ → Stop → Answers) (old : List ℕ) (before now : Option (List ℕ)) (taken : ℕ) (e : PcapEnd) : Type 0 where
   pub took : List ℕ
   pub left : before ≡ prepend_known took now
-  pub is : Ends come offset (old ++ took) now e
+  pub is : Ends come (old ++ took) now taken e

@@ -1,4 +1,8 @@
 //! Why there are no more records.
+ghost use Rattle.std.specs.Prelude.{◌≡◌};
+ghost use Rattle.pcap_file.specs.declared.end.PcapEnd.TheVariants.{Memory};
+
+use std::alloc::AllocError;
 use thiserror::Error;
 
 /// What is wrong with the bytes of a capture.
@@ -37,4 +41,12 @@ pub enum PcapEnd {
     TooLong,
     /// No memory was left.
     Memory,
+}
+
+impl From<AllocError> for PcapEnd {
+    ghost from_gives = { λ _ e. e ≡ Memory };
+
+    fn from(_e: AllocError) -> PcapEnd {
+        PcapEnd::Memory
+    }
 }

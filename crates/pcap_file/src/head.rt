@@ -9,9 +9,9 @@ const MICROSECONDS: u32 = 0xa1b2_c3d4;
 
 const NANOSECONDS: u32 = 0xa1b2_3c4d;
 
-/// In which order the bytes of a number stand.
+/// In which order the bytes of a number stand: the highest first, or the lowest.
 #[derive(Clone, Copy, Debug, PartialEq, Eq)]
-pub enum Order {
+pub enum Endian {
     Big,
     Little,
 }
@@ -26,7 +26,7 @@ pub enum Fraction {
 /// What the first four bytes tell.
 #[derive(Clone, Copy, Debug, PartialEq, Eq)]
 pub struct Magic {
-    pub order: Order,
+    pub endian: Endian,
     pub fraction: Fraction,
 }
 
@@ -38,24 +38,24 @@ pub struct FileHead {
 }
 
 /// The 16 bits at `at`.
-pub fn u16_at(order: Order, bytes: &[u8], at: usize) -> u16
+pub fn u16_at(endian: Endian, bytes: &[u8], at: usize) -> u16
     requires { at + 2 ≤ length bytes.now }
-    ensures { result ≡ number_at order 2 at bytes.now }
+    ensures { result ≡ number_at endian 2 at bytes.now }
 {
-    match order {
-        Order::Big => BigEndian::read_u16(&bytes[at..]),
-        Order::Little => LittleEndian::read_u16(&bytes[at..]),
+    match endian {
+        Endian::Big => BigEndian::read_u16(&bytes[at..]),
+        Endian::Little => LittleEndian::read_u16(&bytes[at..]),
     }
 }
 
 /// The 32 bits at `at`.
-pub fn u32_at(order: Order, bytes: &[u8], at: usize) -> u32
+pub fn u32_at(endian: Endian, bytes: &[u8], at: usize) -> u32
     requires { at + 4 ≤ length bytes.now }
-    ensures { result ≡ number_at order 4 at bytes.now }
+    ensures { result ≡ number_at endian 4 at bytes.now }
 {
-    match order {
-        Order::Big => BigEndian::read_u32(&bytes[at..]),
-        Order::Little => LittleEndian::read_u32(&bytes[at..]),
+    match endian {
+        Endian::Big => BigEndian::read_u32(&bytes[at..]),
+        Endian::Little => LittleEndian::read_u32(&bytes[at..]),
     }
 }
 
@@ -63,29 +63,29 @@ fn magic_of(bytes: &[u8]) -> Option<Magic>
     requires { 4 ≤ length bytes.now }
     ensures { result ≡ magic_of bytes.now }
 {
-    let big = u32_at(Order::Big, bytes, 0);
-    let little = u32_at(Order::Little, bytes, 0);
+    let big = u32_at(Endian::Big, bytes, 0);
+    let little = u32_at(Endian::Little, bytes, 0);
     if big == MICROSECONDS {
         return Some(Magic {
-            order: Order::Big,
+            endian: Endian::Big,
             fraction: Fraction::Micro,
         });
     }
     if big == NANOSECONDS {
         return Some(Magic {
-            order: Order::Big,
+            endian: Endian::Big,
             fraction: Fraction::Nano,
         });
     }
     if little == MICROSECONDS {
         return Some(Magic {
-            order: Order::Little,
+            endian: Endian::Little,
             fraction: Fraction::Micro,
         });
     }
     if little == NANOSECONDS {
         return Some(Magic {
-            order: Order::Little,
+            endian: Endian::Little,
             fraction: Fraction::Nano,
         });
     }
@@ -117,13 +117,13 @@ fn with_magic(magic: Magic, bytes: &[u8]) -> Result<FileHead, PcapEnd>
     requires { 24 ≤ length bytes.now }
     ensures { result ≡ version_end magic bytes.now }
 {
-    if u16_at(magic.order, bytes, 4) != 2 {
+    if u16_at(magic.endian, bytes, 4) != 2 {
         return Err(PcapEnd::Fault {
             offset: 4,
             what: CaptureFault::VersionUnknown,
         });
     }
-    let link = (u32_at(magic.order, bytes, 20) % 0x1_0000) as u16;
+    let link = (u32_at(magic.endian, bytes, 20) % 0x1_0000) as u16;
     if !is_link(link) {
         return Err(PcapEnd::Fault {
             offset: 20,

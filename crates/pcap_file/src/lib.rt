@@ -3,9 +3,7 @@
 #![tactic(auto)]
 
 mod end;
-mod fill;
 mod head;
-mod held;
 mod opening;
 mod reader;
 mod record;

@@ -1,85 +1,42 @@
-//! The file head, and the first record behind it.
-ghost use Rattle.std.specs.Prelude.{◌≡◌, ◌≤◌, ◌<◌, ◌+◌, Ok, length, pos, ◌≤ℤ◌, IfOk, IfErr};
-ghost use Rattle.pcap_file.specs.Heads.{head_of};
-ghost use Rattle.pcap_file.specs.Records.{records, records_from, end_of_head, Ends, CountsBy, held_by, StepsTo, ClosesAs};
-ghost use Rattle.pcap_file.specs.Taking.{most_bytes, Takes};
+//! The file head.
+ghost use Rattle.std.specs.Prelude.{◌≡◌, ◌≤◌, Ok, length, max, IfOk, IfErr, false};
+ghost use Rattle.source_block.specs.Holding.{most_bytes};
+ghost use Rattle.source_block.specs.Taking.{Takes};
+ghost use Rattle.pcap_file.specs.Heads.{head_of, has_head};
+ghost use Rattle.pcap_file.specs.Reading.{most_kept};
+ghost use Rattle.pcap_file.specs.Records.{records, cut_off, Ends, CountsBy};
 
 use crate::end::{CaptureFault, PcapEnd};
-use crate::fill::{Filled, fill};
 use crate::head::{FileHead, head_of};
-use crate::held::Held;
-use crate::record::{Captured, next_record};
-use std::alloc::Global;
+use crate::record::end_of;
+use source_block::{Block, Stop, Took};
 use vast_io::Source;
 
 /// Takes the file head, whose bytes stay held.
-fn whole_head<S: Source>(
-    source: &mut S,
-    block: &mut [u8],
-    held: &mut Held,
-) -> Result<FileHead, PcapEnd>
-    requires room { 0 + length held.old ≤ most_bytes }
-    requires block { 0 < length block.old }
-    ensures takes { Takes (held_by result) held.old held.new (S.left source.old) (S.left source.new) }
-    ensures whole { IfOk result (λ head. (24 ≤ length held.new) × (head_of held.new ≡ Ok head)) }
-    ensures ends { IfErr result (λ e. Ends records 0 held.new (S.left source.new) e) }
-    ensures room { 0 + length held.new ≤ most_bytes }
+pub fn whole_head<S: Source>(source: &mut S, block: &mut Block) -> Result<FileHead, PcapEnd>
+    ensures takes { Takes block.old block.new (S.left source.old) (S.left source.new) }
+    ensures whole { IfOk result (λ head. (24 ≤ length block.new.bytes) × (head_of block.new.bytes ≡ Ok head)) }
+    ensures ends { IfErr result (λ e. Ends records block.new.bytes (S.left source.new) block.new.taken e) }
+    ensures none { IfErr result (λ e. has_head block.new.bytes ≡ false) }
     ensures counts { CountsBy result (S.faults source.old) (S.faults source.new) }
+    ensures bound { block.new.taken ≤ most_bytes }
+    ensures kept { block.new.kept ≤ max block.old.kept most_kept }
 {
-    match fill(source, block, held, 0, 24) {
-        Filled::Enough => {}
-        other => return Err(end_of_head(other, held.as_slice().len() as u64)),
-    }
-    match head_of(held.as_slice()) {
-        Ok(head) => Ok(head),
-        Err(end) => Err(end),
+    match block.fill(source, 24)? {
+        Took::Enough => head_of(block.as_slice()),
+        Took::Stopped(stop) => Err(end_of_head(stop, block.as_slice().len() as u64)),
     }
 }
 
-fn end_of_head(filled: Filled, count: u64) -> PcapEnd
-    ensures { result ≡ end_of_head filled count }
+/// The end where no more bytes come of a file head than so many.
+fn end_of_head(stop: Stop, count: u64) -> PcapEnd
+    ensures { result ≡ cut_off stop count CaptureFault.ShortHead }
 {
-    match filled {
-        Filled::AtEnd => PcapEnd::Fault {
+    if stop == Stop::AtEnd {
+        return PcapEnd::Fault {
             offset: count,
             what: CaptureFault::ShortHead,
-        },
-        Filled::Failed => PcapEnd::ReadFault,
-        Filled::AtBound => PcapEnd::TooLong,
-        Filled::Memory => PcapEnd::Memory,
-        Filled::Enough => PcapEnd::Memory,
+        };
     }
-}
-
-/// A file head and the record behind it.
-#[derive(Debug, Drop)]
-pub struct Opened {
-    pub head: FileHead,
-    pub captured: Captured,
-}
-
-/// Takes the file head and the first record.
-pub fn first_record<S: Source>(
-    alloc: Global,
-    source: &mut S,
-    block: &mut [u8],
-    held: &mut Held,
-) -> Result<Opened, PcapEnd>
-    requires room { 0 + length held.old ≤ most_bytes }
-    requires block { 0 < length block.old }
-    ensures next { IfOk result (λ it. StepsTo records (records_from it.head (24 + (16 + it.captured.captured))) held.old held.new (S.left source.old) (S.left source.new) it.captured) }
-    ensures room { IfOk result (λ it. 24 + (16 + it.captured.captured) + length held.new ≤ most_bytes) }
-    ensures time { IfOk result (λ it. pos 0 ≤ℤ it.captured.time) }
-    ensures ends { IfErr result (λ e. ClosesAs records 0 held.old (S.left source.old) (S.left source.new) e) }
-    ensures counts { CountsBy result (S.faults source.old) (S.faults source.new) }
-{
-    let head = match whole_head(source, block, held) {
-        Ok(head) => head,
-        Err(end) => return Err(end),
-    };
-    held.skip(24);
-    match next_record(alloc, source, block, held, head, 24) {
-        Ok(captured) => Ok(Opened { head, captured }),
-        Err(end) => Err(end),
-    }
+    end_of(stop)
 }

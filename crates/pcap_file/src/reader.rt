@@ -1,86 +1,94 @@
 //! The reader of a capture file.
-ghost use Rattle.std.specs.Prelude.{◌≡◌, ◌≤◌, ◌<◌, ◌+◌, [], pos, ◌≤ℤ◌, length, IfOk};
+ghost use Rattle.std.specs.Prelude.{◌≡◌, ◌≤◌, ◌+◌, [], pos, ◌≤ℤ◌, length, drop, IfOk};
 ghost use Rattle.pcap_file.specs.Records.{CountsBy};
-ghost use Rattle.pcap_file.specs.Reading.{Answer, Follows, CountsOf};
+ghost use Rattle.pcap_file.specs.Reading.{Answer, Follows, CountsOf, is_headed, most_kept};
 
 use crate::end::PcapEnd;
 use crate::head::FileHead;
-use crate::held::Held;
-use crate::opening::first_record;
+use crate::opening::whole_head;
 use crate::record::{Captured, next_record};
+use source_block::Block;
 use std::alloc::{AllocError, Global};
 use std::marker::Model;
 use vast_io::Source;
 
-/// How many bytes are taken of a source at once, at most.
-const BLOCK: usize = 65_536;
-
 /// How far a reader is.
 #[derive(Clone, Copy, Debug, PartialEq, Eq)]
 pub enum Phase {
-    /// No record was given.
+    /// Nothing was read.
     Start,
     /// Records come. The bytes held begin at this offset of the file.
     Records { head: FileHead, offset: u64 },
-    /// No more records come.
-    Ended(PcapEnd),
+    /// No more records come. The file head was read, or it was not.
+    Ended { end: PcapEnd, has_head: bool },
 }
 
 /// Reads a capture file of libpcap's format, version 2.4, from any source.
 ///
-/// It takes at most 2^36 bytes and keeps at most one record and a block of them. Contracts see how far it
-/// is, the bytes that it keeps and how many records it gave.
+/// It takes at most 2^36 bytes, and keeps memory for at most one record and a block of 65,536 bytes. Contracts see how
+/// far it is, the bytes that it holds, how many it took, for how many it keeps memory, and how many records it gave.
 #[derive(Drop)]
 pub struct PcapReader {
     phase: Phase,
-    held: Held,
+    block: Block,
     given: u32,
-    block: Vec<u8>,
     alloc: Global,
 }
 
 impl Model for PcapReader {
-    ghost use Rattle.std.specs.Prelude.{◌<◌, length};
-    ghost use Rattle.pcap_file.specs.Reading.{Reading, IsSound};
+    ghost use Rattle.std.specs.Prelude.{◌≤◌, length};
+    ghost use Rattle.source_block.specs.Holding.{most_bytes};
+    ghost use Rattle.pcap_file.specs.Reading.{Reading, IsSound, most_kept};
 
     ghost Value = { Reading };
 
-    ghost view = { λ r. record { phase = r.phase; held = r.held; given = r.given } };
+    ghost view = { λ r. record { phase = r.phase; held = r.block.bytes; taken = r.block.taken; kept = r.block.kept; given = r.given } };
 
-    ghost invariant = { λ r. (0 < length r.block.items) × IsSound r.phase (length r.held) r.given };
+    ghost invariant = { λ r. (r.block.taken ≤ most_bytes) × (r.block.kept ≤ most_kept) × IsSound r.phase (length r.block.bytes) r.block.taken r.given };
 }
 
 impl PcapReader {
     /// A reader that has read nothing.
     pub fn new(alloc: Global) -> Result<Self, AllocError>
-        ensures { IfOk result (λ reader. reader ≡ record { phase = Phase.Start; held = []; given = 0 }) }
+        ensures { IfOk result (λ reader. reader ≡ record { phase = Phase.Start; held = []; taken = 0; kept = 65536; given = 0 }) }
     {
-        let block = zeros(alloc, BLOCK)?;
+        let block = Block::new(alloc)?;
         Ok(PcapReader {
             phase: Phase::Start,
-            held: Held::new(alloc),
-            given: 0,
             block,
+            given: 0,
             alloc,
         })
     }
 
+    /// Whether the file head was read, and has no fault.
+    pub fn has_head(&self) -> bool
+        ensures { result ≡ is_headed self.now.phase }
+    {
+        match self.phase {
+            Phase::Start => false,
+            Phase::Records { .. } => true,
+            Phase::Ended { has_head, .. } => has_head,
+        }
+    }
+
     /// The next record of the capture, or why there is none.
     ///
-    /// A fault comes at the first of these places: fewer than 24 bytes (their number), a magic that is
-    /// none (0), a major version other than 2 (4), a link type other than 1, 101 and 113 (20), and at a
-    /// record's start where the file ends within it or where it tells more than 262,144 captured bytes,
-    /// which is told before these are read. After any end every later call gives the same.
+    /// A fault comes at the first of these places: fewer than 24 bytes (their number), a magic that is none (0), a major
+    /// version other than 2 (4), a link type other than 1, 101 and 113 (20), and at a record's start where the file ends
+    /// within it or where it tells more than 262,144 captured bytes, which is told before these are read. After any end
+    /// every later call gives the same.
     pub fn next<S: Source>(&mut self, s: &mut S) -> Result<Captured, PcapEnd>
         ensures next { Follows self.old.phase self.old self.new (S.left s.old) (S.left s.new) result }
         ensures counts { CountsOf self.old.phase result (S.faults s.old) (S.faults s.new) }
         ensures time { IfOk result (λ captured. pos 0 ≤ℤ captured.time) }
         ensures few { self.new.given ≤ 4294967295 }
+        ensures kept { self.new.kept ≤ most_kept }
     {
         match self.phase {
             Phase::Start => self.begin(s),
             Phase::Records { head, offset } => self.go_on(s, head, offset),
-            Phase::Ended(end) => Err(end),
+            Phase::Ended { end, .. } => Err(end),
         }
     }
 
@@ -91,25 +99,25 @@ impl PcapReader {
         ensures counts { CountsBy result (S.faults s.old) (S.faults s.new) }
         ensures time { IfOk result (λ captured. pos 0 ≤ℤ captured.time) }
         ensures few { self.new.given ≤ 4294967295 }
+        ensures kept { self.new.kept ≤ most_kept }
     {
-        match first_record(self.alloc, s, &mut self.block, &mut self.held) {
-            Ok(opened) => {
-                let offset = 40 + u64::from(opened.captured.captured);
-                self.phase = Phase::Records {
-                    head: opened.head,
-                    offset,
-                };
-                self.given = 1;
-                Ok(opened.captured)
+        match whole_head(s, &mut self.block) {
+            Ok(head) => {
+                self.block.skip(24);
+                self.phase = Phase::Records { head, offset: 24 };
+                self.go_on(s, head, 24)
             }
             Err(end) => {
-                self.phase = Phase::Ended(end);
+                self.phase = Phase::Ended {
+                    end,
+                    has_head: false,
+                };
                 Err(end)
             }
         }
     }
 
-    /// A later record.
+    /// A record behind the file head.
     fn go_on<S: Source>(
         &mut self,
         s: &mut S,
@@ -121,8 +129,9 @@ impl PcapReader {
         ensures counts { CountsBy result (S.faults s.old) (S.faults s.new) }
         ensures time { IfOk result (λ captured. pos 0 ≤ℤ captured.time) }
         ensures few { self.new.given ≤ 4294967295 }
+        ensures kept { self.new.kept ≤ most_kept }
     {
-        match next_record(self.alloc, s, &mut self.block, &mut self.held, head, offset) {
+        match next_record(self.alloc, s, &mut self.block, head, offset) {
             Ok(captured) => {
                 let offset = offset + (16 + u64::from(captured.captured));
                 self.phase = Phase::Records { head, offset };
@@ -130,16 +139,12 @@ impl PcapReader {
                 Ok(captured)
             }
             Err(end) => {
-                self.phase = Phase::Ended(end);
+                self.phase = Phase::Ended {
+                    end,
+                    has_head: true,
+                };
                 Err(end)
             }
         }
     }
-}
-
-/// So many bytes of value 0.
-fn zeros(alloc: Global, count: usize) -> Result<Vec<u8>, AllocError>
-    ensures { IfOk result (λ block. length block.items ≡ count) }
-{
-    vec![in alloc; 0; count]
 }

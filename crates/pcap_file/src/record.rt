@@ -1,12 +1,13 @@
 //! The records of a capture.
-ghost use Rattle.std.specs.Prelude.{◌≡◌, ◌≤◌, ◌<◌, ◌+◌, ◌^◌, ◌==◌, pos, ◌≤ℤ◌, length, IfOk, IfErr};
-ghost use Rattle.pcap_file.specs.Records.{record_of, size_of_record, captured_of, nanoseconds, records_from, end_after, Ends, IsWhole, CountsBy, held_by, StepsTo, ClosesAs};
-ghost use Rattle.pcap_file.specs.Taking.{most_bytes, Takes};
+ghost use Rattle.std.specs.Prelude.{◌≡◌, ◌≤◌, ◌+◌, pos, ◌≤ℤ◌, length, max, IfOk, IfErr};
+ghost use Rattle.source_block.specs.Holding.{most_bytes};
+ghost use Rattle.source_block.specs.Taking.{Takes};
+ghost use Rattle.pcap_file.specs.Reading.{most_kept};
+ghost use Rattle.pcap_file.specs.Records.{record_of, size_of_record, captured_of, nanoseconds, records_from, end_of, end_after, Ends, IsWhole, CountsBy, StepsTo, ClosesAs};
 
 use crate::end::{CaptureFault, PcapEnd};
-use crate::fill::{Filled, fill};
 use crate::head::{FileHead, Fraction, u32_at};
-use crate::held::Held;
+use source_block::{Block, Stop, Took};
 use std::alloc::{AllocError, Global};
 use vast_io::Source;
 use vast_value::Bytes;
@@ -34,7 +35,7 @@ pub fn captured_of(head: FileHead, bytes: &[u8]) -> u32
     requires { 16 ≤ length bytes.now }
     ensures { result ≡ captured_of head bytes.now }
 {
-    u32_at(head.magic.order, bytes, 8)
+    u32_at(head.magic.endian, bytes, 8)
 }
 
 /// The record that the bytes begin with.
@@ -43,16 +44,16 @@ pub fn record_of(alloc: Global, head: FileHead, bytes: &[u8]) -> Result<Captured
     requires short { captured_of head bytes.now ≤ 262144 }
     ensures { IfOk result (λ captured. captured ≡ record_of head bytes.now) }
 {
-    let order = head.magic.order;
-    let seconds = u32_at(order, bytes, 0);
-    let fraction = u32_at(order, bytes, 4);
+    let endian = head.magic.endian;
+    let seconds = u32_at(endian, bytes, 0);
+    let fraction = u32_at(endian, bytes, 4);
     let captured = captured_of(head, bytes);
     let size = captured as usize;
     let content = Bytes::copy(alloc, &bytes[16..16 + size])?;
     Ok(Captured {
         time: time_of(head.magic.fraction, seconds, fraction),
         captured,
-        original: u32_at(order, bytes, 12),
+        original: u32_at(endian, bytes, 12),
         link: head.link,
         bytes: content,
     })
@@ -71,24 +72,22 @@ fn time_of(fraction: Fraction, seconds: u32, part: u32) -> i64
 /// Takes bytes until a whole record is held, and answers its size.
 pub fn whole_record<S: Source>(
     source: &mut S,
-    block: &mut [u8],
-    held: &mut Held,
+    block: &mut Block,
     head: FileHead,
     offset: u64,
 ) -> Result<usize, PcapEnd>
-    requires room { offset + length held.old ≤ most_bytes }
-    requires block { 0 < length block.old }
-    ensures takes { Takes (held_by result) held.old held.new (S.left source.old) (S.left source.new) }
-    ensures whole { IfOk result (λ size. IsWhole head offset size held.new) }
-    ensures ends { IfErr result (λ e. Ends (records_from head offset) offset held.new (S.left source.new) e) }
-    ensures room { offset + length held.new ≤ most_bytes }
+    ensures takes { Takes block.old block.new (S.left source.old) (S.left source.new) }
+    ensures whole { IfOk result (λ size. IsWhole head size block.new.bytes) }
+    ensures ends { IfErr result (λ e. Ends (records_from head offset) block.new.bytes (S.left source.new) block.new.taken e) }
     ensures counts { CountsBy result (S.faults source.old) (S.faults source.new) }
+    ensures bound { block.new.taken ≤ most_bytes }
+    ensures kept { block.new.kept ≤ max block.old.kept most_kept }
 {
-    match fill(source, block, held, offset, 16) {
-        Filled::Enough => {}
-        other => return Err(end_after(other, held.as_slice().is_empty(), offset)),
+    match block.fill(source, 16)? {
+        Took::Enough => {}
+        Took::Stopped(stop) => return Err(end_after(stop, block.as_slice().is_empty(), offset)),
     }
-    let captured = captured_of(head, held.as_slice());
+    let captured = captured_of(head, block.as_slice());
     if captured > MOST_CAPTURED {
         return Err(PcapEnd::Fault {
             offset,
@@ -96,58 +95,55 @@ pub fn whole_record<S: Source>(
         });
     }
     let size = 16 + captured as usize;
-    match fill(source, block, held, offset, size) {
-        Filled::Enough => Ok(size),
-        other => Err(end_after(other, false, offset)),
+    match block.fill(source, size)? {
+        Took::Enough => Ok(size),
+        Took::Stopped(stop) => Err(end_after(stop, false, offset)),
     }
 }
 
-fn end_after(filled: Filled, nothing: bool, offset: u64) -> PcapEnd
-    ensures { result ≡ end_after filled nothing offset }
+/// The end where no more bytes come.
+pub fn end_of(stop: Stop) -> PcapEnd
+    ensures { result ≡ end_of stop }
 {
-    match filled {
-        Filled::AtEnd => {
-            if nothing {
-                return PcapEnd::Done;
-            }
-            PcapEnd::Fault {
-                offset,
-                what: CaptureFault::ShortRecord,
-            }
-        }
-        Filled::Failed => PcapEnd::ReadFault,
-        Filled::AtBound => PcapEnd::TooLong,
-        Filled::Memory => PcapEnd::Memory,
-        Filled::Enough => PcapEnd::Memory,
+    match stop {
+        Stop::AtEnd => PcapEnd::Done,
+        Stop::Failed => PcapEnd::ReadFault,
+        Stop::AtBound => PcapEnd::TooLong,
     }
+}
+
+/// The end where no more bytes come of a record, of which there are none or too few.
+fn end_after(stop: Stop, nothing: bool, offset: u64) -> PcapEnd
+    ensures { result ≡ end_after stop nothing offset }
+{
+    if stop == Stop::AtEnd && !nothing {
+        return PcapEnd::Fault {
+            offset,
+            what: CaptureFault::ShortRecord,
+        };
+    }
+    end_of(stop)
 }
 
 /// Takes the next record.
 pub fn next_record<S: Source>(
     alloc: Global,
     source: &mut S,
-    block: &mut [u8],
-    held: &mut Held,
+    block: &mut Block,
     head: FileHead,
     offset: u64,
 ) -> Result<Captured, PcapEnd>
-    requires room { offset + length held.old ≤ most_bytes }
-    requires block { 0 < length block.old }
-    ensures next { IfOk result (λ captured. StepsTo (records_from head offset) (records_from head (offset + (16 + captured.captured))) held.old held.new (S.left source.old) (S.left source.new) captured) }
-    ensures room { IfOk result (λ captured. offset + (16 + captured.captured) + length held.new ≤ most_bytes) }
+    requires room { offset + length block.old.bytes ≡ block.old.taken }
+    ensures next { IfOk result (λ captured. StepsTo (records_from head offset) (records_from head (offset + (16 + captured.captured))) block.old.bytes block.new.bytes (S.left source.old) (S.left source.new) captured) }
+    ensures room { IfOk result (λ captured. offset + (16 + captured.captured) + length block.new.bytes ≡ block.new.taken) }
     ensures time { IfOk result (λ captured. pos 0 ≤ℤ captured.time) }
-    ensures ends { IfErr result (λ e. ClosesAs (records_from head offset) offset held.old (S.left source.old) (S.left source.new) e) }
+    ensures ends { IfErr result (λ e. ClosesAs (records_from head offset) block.old.bytes (S.left source.old) (S.left source.new) block.new.taken e) }
     ensures counts { CountsBy result (S.faults source.old) (S.faults source.new) }
+    ensures bound { block.new.taken ≤ most_bytes }
+    ensures kept { block.new.kept ≤ max block.old.kept most_kept }
 {
-    let size = match whole_record(source, block, held, head, offset) {
-        Ok(size) => size,
-        Err(end) => return Err(end),
-    };
-    match record_of(alloc, head, held.as_slice()) {
-        Ok(captured) => {
-            held.skip(size);
-            Ok(captured)
-        }
-        Err(_) => Err(PcapEnd::Memory),
-    }
+    let size = whole_record(source, block, head, offset)?;
+    let captured = record_of(alloc, head, block.as_slice())?;
+    block.skip(size);
+    Ok(captured)
 }

@@ -24,13 +24,14 @@ const CAPTURE: [u8; 189] = [
 ];
 
 /// What a reader gave of some bytes: how many records, the time of the first, the captured and original
-/// bytes of all together, and its end.
+/// bytes of all together, whether it read the file head, and its end.
 #[derive(Clone, Copy, Debug, PartialEq, Eq)]
 struct Told {
     records: u32,
     time: i64,
     captured: u64,
     original: u64,
+    has_head: bool,
     end: PcapEnd,
 }
 
@@ -46,6 +47,7 @@ fn read_all(alloc: Global, bytes: &[u8], piece: u32, fails: Vec<u64>) -> Result<
         time: 0,
         captured: 0,
         original: 0,
+        has_head: false,
         end: PcapEnd::Memory,
     };
     for number in 0..9u32 {
@@ -63,6 +65,7 @@ fn read_all(alloc: Global, bytes: &[u8], piece: u32, fails: Vec<u64>) -> Result<
             Err(end) => told.end = end,
         }
     }
+    told.has_head = reader.has_head();
     Ok(told)
 }
 
@@ -82,6 +85,7 @@ fn three_records_and_a_cut(rt: HostRuntime) -> Result<(), Fail> {
         time: 10_000_000_005,
         captured: 112,
         original: 152,
+        has_head: true,
         end,
     };
     assert_eq!(rt; whole(rt.alloc(), CAPTURE.as_slice())?, want);
@@ -108,6 +112,7 @@ fn a_capture_cut_at_every_length(rt: HostRuntime) -> Result<(), Fail> {
         };
         let told = whole(rt.alloc(), &CAPTURE[..length])?;
         assert_eq!(rt; told.records, records, "at {length}");
+        assert_eq!(rt; told.has_head, 24 <= length, "at {length}");
         assert_eq!(rt; told.end, end, "at {length}");
     }
     Ok(())
@@ -125,7 +130,7 @@ fn heads_and_records_with_a_fault(rt: HostRuntime) -> Result<(), Fail> {
         let mut bytes = CAPTURE;
         bytes[place] = byte;
         let told = whole(rt.alloc(), bytes.as_slice())?;
-        assert_eq!(rt; told.records, 0);
+        assert_eq!(rt; (told.records, told.has_head), (0, place == 33));
         assert_eq!(rt; told.end, end);
     }
     Ok(())
@@ -142,6 +147,7 @@ fn little_endian_microseconds(rt: HostRuntime) -> Result<(), Fail> {
         time: 10_000_005_000,
         captured: 2,
         original: 3,
+        has_head: true,
         end: PcapEnd::Done,
     };
     assert_eq!(rt; whole(rt.alloc(), bytes.as_slice())?, want);
@@ -150,11 +156,12 @@ fn little_endian_microseconds(rt: HostRuntime) -> Result<(), Fail> {
 
 #[test]
 fn a_failed_read_ends_in_place_of_a_cut(rt: HostRuntime) -> Result<(), Fail> {
-    // Seven bytes a read: read 20 would give the bytes from 140 on.
-    let mut fails = Vec::new(rt.alloc());
-    fails.push(20)?;
-    let told = read_all(rt.alloc(), CAPTURE.as_slice(), 7, fails)?;
-    assert_eq!(rt; told.records, 1);
-    assert_eq!(rt; told.end, PcapEnd::ReadFault);
+    // Seven bytes a read: read 20 would give the bytes from 140 on, and read 3 those from 21 on.
+    for (call, records, has_head) in [(20u64, 1u32, true), (3, 0, false)] {
+        let fails = vec![in rt.alloc(); call; 1]?;
+        let told = read_all(rt.alloc(), CAPTURE.as_slice(), 7, fails)?;
+        assert_eq!(rt; (told.records, told.has_head), (records, has_head));
+        assert_eq!(rt; told.end, PcapEnd::ReadFault);
+    }
     Ok(())
 }
