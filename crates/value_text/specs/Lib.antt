@@ -1,8 +1,9 @@
-pub mod Addresses
-pub mod Answers
-pub mod Escapes
-pub mod Literals
-pub mod Numbers
-pub mod Places
-pub mod Reading
-pub mod Writing
+pub use Rattle.value_reading.specs.Addresses
+pub use Rattle.value_reading.specs.Answers
+pub use Rattle.value_reading.specs.Escapes
+pub use Rattle.value_reading.specs.Numbers
+pub use Rattle.value_reading.specs.Places
+pub use Rattle.value_reading.specs.Ports
+pub use Rattle.value_reading.specs.Reading
+pub use Rattle.value_writing.specs.Writing
+pub use Rattle.query_literal.specs.Literals

@@ -12,7 +12,7 @@ use Rattle.vast_value.specs.Fit.{fits_column, fits_columns, is_small}
 use Rattle.vast_value.specs.Layouts.{is_empty}
 use Rattle.vast_value.specs.Headings.{Field, field_of}
 use Rattle.vast_value.proofs.RowLemmas.{fits_push}
-use Rattle.value_text.specs.declared.marks.Marks.{Marks}
+use Rattle.value_text.specs.declared.Marks.{Marks}
 use Rattle.value_text.specs.Reading.{cell_read}
 use Rattle.zeek_log.specs.declared.fault.At.{At}
 use Rattle.zeek_log.specs.declared.fault.LineEnd.{LineEnd}

@@ -9,7 +9,7 @@ use Rattle.vast_value.specs.declared.kind.Kind.{Kind}
 use Rattle.vast_value.specs.declared.kind.Kind.TheVariants as kind
 use Rattle.vast_value.specs.Headings.{Heading}
 use Rattle.vast_value.specs.Layouts.{is_empty}
-use Rattle.value_text.specs.declared.marks.Marks.{Marks}
+use Rattle.value_text.specs.declared.Marks.{Marks}
 use Rattle.value_text.specs.Addresses.{is_hexadecimal, digit_value}
 use Rattle.zeek_log.specs.declared.fault.At.{At}
 use Rattle.zeek_log.specs.declared.fault.ZeekFault.TheVariants.{TooManyColumns, EmptyName, SameName, UnknownKind, Floating}

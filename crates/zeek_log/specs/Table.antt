@@ -7,7 +7,7 @@ use Rattle.vast_value.specs.declared.cell.Cell.{Cell}
 use Rattle.vast_value.specs.declared.kind.Kind.{Kind}
 use Rattle.vast_value.specs.Headings.{Field, Heading}
 use Rattle.vast_value.specs.Layouts.{is_empty}
-use Rattle.value_text.specs.declared.marks.Marks.{Marks}
+use Rattle.value_text.specs.declared.Marks.{Marks}
 use Rattle.value_text.specs.Reading.{cell_read}
 use Rattle.zeek_log.specs.declared.fault.ZeekFault.{ZeekFault}
 use Rattle.zeek_log.specs.declared.fault.ZeekFault.TheVariants.{NoHead, BadSeparator, FieldsTypes, CellCount, BadCell, LineTooLong}

@@ -1,6 +1,0 @@
-use Rattle.std.proofs.Common.{sym}
-use Rattle.value_text.proofs.NetLemmas.{net_of_itself}
-use Rattle.value_text.proofs.addresses.net_of.Goals as goal
-
-pub returns : goal.returns
-returns c = sym (net_of_itself _)

@@ -1,5 +1,0 @@
-use Rattle.value_text.proofs.WritingGap.{first_longest}
-use Rattle.value_text.proofs.gap_law.first_longest_gap.Goals as goal
-
-pub returns : goal.returns
-returns c = first_longest

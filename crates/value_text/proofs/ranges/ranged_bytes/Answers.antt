@@ -1,5 +1,0 @@
-use Rattle.vast_value.proofs.ByteLemmas.{each_byte}
-use Rattle.value_text.proofs.ranges.ranged_bytes.Goals as goal
-
-pub returns : goal.returns
-returns c = each_byte c.args.text.now c.type_inv.text
