@@ -1,6 +1,7 @@
 pub mod Ends
 pub mod Halves
 pub mod Judging
+pub mod OneFault
 pub mod ParsingLemmas
 pub mod Passing
 pub mod PieceLemmas
@@ -8,3 +9,4 @@ pub mod Shapes
 pub mod Standing
 pub mod Stepping
 pub mod TokenLemmas
+mod Vectors

@@ -369,9 +369,9 @@ step (behind hs ors us last done outer fine_ors fine_us fine ready) at x other =
 
 -- ---- the end
 
--- what a text that was read to its end is: a query, or none for a fault at a place
+-- what a text that was read to its end is: a query none of whose tests clashes, or none for a fault at a place
 abbrev pub Verdict : List Token → Result Expr QueryFault → Type 0
-Verdict tokens (Ok e) = Reads (kinds_of tokens) e
+Verdict tokens (Ok e) = Reads (kinds_of tokens) e × Clean (kinds_of tokens)
 Verdict tokens (Err f) = FaultIn tokens f.at f.what
 
 end_refused : (done : List Token) (ls : List Lexeme) (s : Shape) (at : ℕ) → Ready done ls s → Begins most_open ls → move s lexeme.End ≡ None
@@ -389,13 +389,15 @@ behind_end : (hs : List Half) (ors : List AndTree) (us : List UnitTree) (last : 
 behind_end [] ors us last done outer fine_ors fine_us fine ready at =
     let query = or_of ors (and_of us last) in
     let fine_query : FineOr 0 query = fine_or_of 0 ors (and_of us last) fine_ors (fine_and_of 0 us last fine_us fine) in
-    record {
+    let kinds : kinds_of (done ++ tok at lexeme.End ∷ []) ≡ behind_front [] ors us last ++ lexeme.End ∷ [] = kinds_more done at lexeme.End (behind_front [] ors us last) ready.is in
+    let reads : Reads (kinds_of (done ++ tok at lexeme.End ∷ [])) (group_expr (read_whole ors us last)) = record {
       query = query;
-      spells = kinds_more done at lexeme.End (behind_front [] ors us last) ready.is ∙ ap (λ (t : List Lexeme). t ++ lexeme.End ∷ []) (sym (whole_spelled ors us last));
+      spells = kinds ∙ ap (λ (t : List Lexeme). t ++ lexeme.End ∷ []) (sym (whole_spelled ors us last));
       is = whole_expr ors us last;
       shallow = omega (arith, fine_query.within);
       agree = fine_query.agrees;
-    }
+    } in
+    (reads, subst Clean (sym kinds) (clean_any done (behind_front [] ors us last) (shape [] 0 Behind) lexeme.End ready refl))
 behind_end (h ∷ hs) ors us last done outer fine_ors fine_us fine ready at =
     subst (Verdict (done ++ tok at lexeme.End ∷ [])) (sym (not_empty (outers hs) (read_half h) (read_whole ors us last) at))
     (end_refused done (behind_front (h ∷ hs) ors us last) (shape (nots_of (h ∷ hs)) 0 Behind) at ready

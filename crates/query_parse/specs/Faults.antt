@@ -97,10 +97,14 @@ FaultIn tokens at TooDeep = Stops tokens at IsTooDeep
 FaultIn tokens at KindClash = Clashes tokens at
 FaultIn tokens at TooLong = ⊥
 
+-- the most bytes of a query
+abbrev pub most_bytes : ℕ
+most_bytes = 65536
+
 -- The leftmost fault of a text, and its offset. A text of more than 65,536 bytes is too long whatever it holds.
 abbrev pub IsFault : List ℕ → ℕ → QueryWhat → Type 0
-IsFault text at TooLong = (65536 < length text) × (at ≡ 65536)
-IsFault text at what = (length text ≤ 65536) × FaultIn (tokens_of text) at what
+IsFault text at TooLong = (most_bytes < length text) × (at ≡ most_bytes)
+IsFault text at what = (length text ≤ most_bytes) × FaultIn (tokens_of text) at what
 
 -- a refusal is the leftmost fault
 abbrev pub Refuses : List ℕ → ParseEnd → Type 0

@@ -1,12 +1,16 @@
 -- Laws of queries, in their own words.
-use Rattle.std.specs.Prelude.{◌≡◌, ℕ, suc, List, ◌∷◌, length, IsTrue}
+use Rattle.std.specs.Prelude.{◌≡◌, ◌↔◌, ◌≤◌, ℕ, suc, List, ◌∷◌, length, IsTrue, Result, Ok, Err}
 use Rattle.query_meaning.specs.declared.expr.Pick.{Pick}
 use Rattle.query_meaning.specs.declared.expr.Rel.{Rel}
 use Rattle.query_meaning.specs.declared.expr.Literal.{Literal}
-use Rattle.query_parse.specs.Faults.{kinds_of}
-use Rattle.query_parse.specs.Grammar.{Plain, Turned, unit_expr, turned}
+use Rattle.query_meaning.specs.declared.expr.Expr.{Expr}
+use Rattle.query_parse.specs.declared.fault.QueryFault.{QueryFault}
+use Rattle.query_parse.specs.declared.fault.QueryWhat.{QueryWhat}
+use Rattle.query_parse.specs.Faults.{kinds_of, most_bytes, IsFault}
+use Rattle.query_parse.specs.Grammar.{Plain, Turned, unit_expr, turned, Reads}
 use Rattle.query_parse.specs.Lexemes.{is_blank}
-use Rattle.query_parse.specs.Tokens.{tokens_in}
+use Rattle.query_parse.specs.Parsing.{parsed}
+use Rattle.query_parse.specs.Tokens.{tokens_in, lexemes_of}
 
 -- A blank before tokens changes none of them, wherever in a text they stand. What a text is read as hangs on its tokens
 -- alone, so blanks between tokens change nothing.
@@ -20,3 +24,15 @@ abbrev pub ReversedIsTurned : Type 0
 ReversedIsTurned =
     (pick : Pick) (rel : Rel) (literal : Literal)
     → (unit_expr (Turned literal rel pick) ≡ unit_expr (Plain pick (turned rel) literal)) × (unit_expr (Turned literal (turned rel) pick) ≡ unit_expr (Plain pick rel literal))
+
+-- a text parses to an expression exactly where it is not too long and its tokens are a query that stands for it
+abbrev pub ParsedReads : Type 0
+ParsedReads = (text : List ℕ) (expr : Expr) → (parsed text ≡ Ok expr) ↔ ((length text ≤ most_bytes) × Reads (lexemes_of text) expr)
+
+-- a text parses to a fault exactly where this is its leftmost fault
+abbrev pub ParsedFaults : Type 0
+ParsedFaults = (text : List ℕ) (fault : QueryFault) → (parsed text ≡ Err fault) ↔ IsFault text fault.at fault.what
+
+-- no text has two faults
+abbrev pub OneFault : Type 0
+OneFault = (text : List ℕ) (a b : ℕ) (what other : QueryWhat) → IsFault text a what → IsFault text b other → (a ≡ b) × (what ≡ other)

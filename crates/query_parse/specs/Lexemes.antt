@@ -3,7 +3,7 @@ use Rattle.std.specs.Prelude.{ℕ, Bool, true, false, ◌&&◌, ◌||◌, ◌==�
 use Rattle.std.specs.List.{list_all, list_any}
 use Rattle.std.specs.Str.{bytes_eq}
 use Rattle.vast_value.specs.declared.kind.Elem.{Elem}
-use Rattle.vast_value.specs.declared.kind.Elem.TheVariants as elem
+use Rattle.vast_value.specs.Kinds.{elem_named}
 use Rattle.vast_value.specs.declared.value.Value.{Value}
 use Rattle.vast_value.specs.declared.value.Value.TheVariants as value
 use Rattle.value_text.specs.Numbers.{is_digit}
@@ -34,19 +34,6 @@ is_name_byte b = is_letter b || (is_digit b || (b == 95 || (b == 45 || b == 46))
 abbrev pub is_name : List ℕ → Bool
 is_name [] = false
 is_name (b ∷ bs) = (is_letter b || b == 95) && list_all is_name_byte bs
-
-abbrev pub elem_named : List ℕ → Option Elem
-elem_named name =
-    if bytes_eq name (codes "bool") then Some elem.Bool
-    else (if bytes_eq name (codes "count") then Some elem.Count
-    else (if bytes_eq name (codes "int") then Some elem.Int
-    else (if bytes_eq name (codes "time") then Some elem.Time
-    else (if bytes_eq name (codes "interval") then Some elem.Span
-    else (if bytes_eq name (codes "string") then Some elem.Text
-    else (if bytes_eq name (codes "enum") then Some elem.Name
-    else (if bytes_eq name (codes "addr") then Some elem.Addr
-    else (if bytes_eq name (codes "subnet") then Some elem.Subnet
-    else (if bytes_eq name (codes "port") then Some elem.Port else None)))))))))
 
 -- `:` and the name of a type
 abbrev pub kind_picked : List ℕ → Option Elem

@@ -1,5 +1,6 @@
 -- Reading tokens from left to right. That what is so read is in the grammar, that nothing in it is refused, and that a
--- refusal is the leftmost fault, is proved of these words; no clause of the public call names one.
+-- refusal is the leftmost fault, is proved of these words. The public call names one of them, `parsed`, which is the grammar
+-- by a law.
 use Rattle.std.specs.Prelude.{ℕ, zero, suc, ◌+◌, ◌-◌, Bool, true, false, ◌&&◌, if◌then◌else◌, List, [], ◌∷◌, ◌++◌, Option, None, Some, Result, Ok, Err, length, drop, nat_lt, ◌≡◌, ◌<◌, ◌≤◌}
 use Rattle.std.specs.Option.{option_map}
 use Rattle.query_meaning.specs.declared.expr.Expr.{Expr, roll-Expr}
@@ -20,7 +21,8 @@ use Rattle.query_parse.specs.declared.parser.Group.{Group}
 use Rattle.query_parse.specs.declared.parser.Parser.{Parser}
 use Rattle.query_parse.specs.declared.parser.Phase.{Phase}
 use Rattle.query_parse.specs.declared.parser.Phase.TheVariants.{Start, Picked, Related, Valued, Reversed, Whole}
-use Rattle.query_parse.specs.Grammar.{joined_and, joined_or, test_of, turned}
+use Rattle.query_parse.specs.Grammar.{joined_and, joined_or, test_of, turned, most_open}
+use Rattle.query_parse.specs.Faults.{most_bytes}
 use Rattle.query_parse.specs.Tokens.{Token, tokens_in, tokens_of}
 
 abbrev pub fresh : Group
@@ -60,9 +62,9 @@ abbrev pub with_test : Parser → ℕ → Test → Result Parser QueryFault
 with_test p at test =
     if agrees test then Ok (behind_unit p.outer p.group p.depth (roll-Expr (level.Test test))) else fault at KindClash
 
--- no more than 63 constructs are open
+-- fewer constructs are open than may be
 abbrev pub may_open : Parser → Bool
-may_open p = nat_lt p.depth 64 && nat_lt p.group.nots 64
+may_open p = nat_lt p.depth most_open && nat_lt p.group.nots most_open
 
 abbrev pub not_opened : Parser → ℕ → Result Parser QueryFault
 not_opened p at =
@@ -175,7 +177,7 @@ ReadsOn old new at text (Err Memory) = Unit {0}
 
 -- What a text parses to: the expression that the grammar reads, or the leftmost fault.
 unfoldable pub parsed : List ℕ → Result Expr QueryFault
-parsed text = if nat_lt 65536 (length text) then Err (record { at = 65536; what = TooLong }) else run start (tokens_of text)
+parsed text = if nat_lt most_bytes (length text) then Err (record { at = most_bytes; what = TooLong }) else run start (tokens_of text)
 
 abbrev pub Parses : List ℕ → Result Expr ParseEnd → Type 0
 Parses text result = Reached (parsed text) result

@@ -1,4 +1,8 @@
 //! Why a text is no query.
+ghost use Rattle.std.specs.Prelude.{◌≡◌};
+ghost use Rattle.query_parse.specs.declared.fault.ParseEnd.TheVariants.{Memory};
+
+use std::alloc::AllocError;
 use thiserror::Error;
 
 /// What is wrong with a text at some place.
@@ -34,4 +38,12 @@ pub enum ParseEnd {
     Fault(QueryFault),
     /// No memory was left.
     Memory,
+}
+
+impl From<AllocError> for ParseEnd {
+    ghost from_gives = { λ _ e. e ≡ Memory };
+
+    fn from(_e: AllocError) -> ParseEnd {
+        ParseEnd::Memory
+    }
 }

@@ -1,5 +1,5 @@
 //! Laws of queries.
-ghost use Rattle.query_parse.specs.Laws.{BlankSkipped, ReversedIsTurned};
+ghost use Rattle.query_parse.specs.Laws.{BlankSkipped, ReversedIsTurned, ParsedReads, ParsedFaults, OneFault};
 
 /// A blank before tokens changes none of them, so blanks between tokens change nothing.
 pub fn blanks_are_skipped()
@@ -9,4 +9,16 @@ pub fn blanks_are_skipped()
 /// The reversed form is the test with the relation turned, and turning twice is none.
 pub fn reversed_is_turned()
     ensures { ReversedIsTurned }
+{}
+
+/// What a text parses to is the grammar: an expression exactly where its tokens are a query that stands for it, and a
+/// fault exactly where this is the leftmost one.
+pub fn parsed_is_the_grammar()
+    ensures reads { ParsedReads }
+    ensures faults { ParsedFaults }
+{}
+
+/// No text has two faults.
+pub fn faults_are_one()
+    ensures { OneFault }
 {}

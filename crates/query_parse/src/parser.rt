@@ -126,6 +126,8 @@ impl Parser {
         }
     }
 
+    // Whether one more construct may be open. The `!` before a unit are among those that are open, so the second test never
+    // decides: it is there so that the count of `!` is known to stay in its type.
     fn may_open(&self) -> bool
         ensures { result ≡ may_open self.now }
     {
@@ -151,9 +153,7 @@ impl Parser {
             return Err(fault(at, QueryWhat::TooDeep));
         }
         let group = mem::replace(&mut self.group, Group::new(alloc));
-        let Ok(()) = self.outer.push(group) else {
-            return Err(ParseEnd::Memory);
-        };
+        self.outer.push(group)?;
         self.depth += 1;
         self.phase = Phase::Start;
         Ok(())
@@ -264,9 +264,7 @@ impl Parser {
         ensures { Goes (whole_next self.old 0 Lexeme.Or) self.new result }
     {
         let ands = mem::replace(&mut self.group.ands, Exprs::new(alloc));
-        let Ok(()) = self.group.ors.push(joined_and(ands)) else {
-            return Err(ParseEnd::Memory);
-        };
+        self.group.ors.push(joined_and(ands))?;
         self.group.nots = 0;
         self.phase = Phase::Start;
         Ok(())
@@ -281,10 +279,7 @@ impl Parser {
         };
         let group = mem::replace(&mut self.group, outer);
         self.depth = self.depth.saturating_sub(1);
-        let Ok(expr) = group.into_expr() else {
-            return Err(ParseEnd::Memory);
-        };
-        self.end_unit(alloc, expr)
+        self.end_unit(alloc, group.into_expr()?)
     }
 
     fn end_test(&mut self, alloc: Global, at: u32, test: Test) -> Result<(), ParseEnd>
@@ -301,12 +296,7 @@ impl Parser {
         ensures { Goes (Ok (behind_unit self.old.outer self.old.group self.old.depth expr)) self.new result }
     {
         let nots = self.group.nots;
-        let Ok(whole) = negated(alloc, expr, nots) else {
-            return Err(ParseEnd::Memory);
-        };
-        let Ok(()) = self.group.ands.push(whole) else {
-            return Err(ParseEnd::Memory);
-        };
+        self.group.ands.push(negated(alloc, expr, nots)?)?;
         self.group.nots = 0;
         self.depth = self.depth.saturating_sub(nots);
         self.phase = Phase::Whole;
@@ -340,10 +330,7 @@ fn finish_group(outer: &Items<Group>, group: Group, at: u32) -> Result<Expr, Par
     if !outer.is_empty() {
         return Err(fault(at, QueryWhat::Unexpected));
     }
-    match group.into_expr() {
-        Ok(expr) => Ok(expr),
-        Err(_) => Err(ParseEnd::Memory),
-    }
+    Ok(group.into_expr()?)
 }
 
 /// The fault at an offset.

@@ -1,7 +1,7 @@
 //! From a text to an expression.
 ghost use Rattle.std.specs.Prelude.{◌≡◌, ◌≤◌, ◌<◌, ◌∷◌, length, IfOk, IfErr, MatchResult};
 ghost use Rattle.query_meaning.specs.declared.expr.Expr.{Expr};
-ghost use Rattle.query_parse.specs.Faults.{Refuses};
+ghost use Rattle.query_parse.specs.Faults.{most_bytes, Refuses};
 ghost use Rattle.query_parse.specs.Grammar.{Reads};
 ghost use Rattle.query_parse.specs.Parsing.{run, start, Reached, ReadsOn, Parses};
 ghost use Rattle.query_parse.specs.Tokens.{tokens_of, lexemes_of};
@@ -14,7 +14,7 @@ use query_meaning::Expr;
 use std::alloc::Global;
 
 /// The longest text of a query, in bytes.
-const LONGEST: usize = 65_536;
+const MOST_BYTES: u32 = 65_536;
 
 /// The expression that a text is a query of, or its leftmost fault.
 ///
@@ -30,28 +30,26 @@ pub fn parse(alloc: Global, text: &str) -> Result<Expr, ParseEnd>
     ensures exact { Parses text.now result }
     ensures reads { IfOk result (λ expr. Reads (lexemes_of text.now) expr) }
     ensures fault { IfErr result (λ end. Refuses text.now end) }
-    ensures read { (expr : Expr) → length text.now ≤ 65536 → Reads (lexemes_of text.now) expr → MatchResult result (λ e. e ≡ expr) (λ end. end ≡ ParseEnd.Memory) }
+    ensures read { (expr : Expr) → length text.now ≤ most_bytes → Reads (lexemes_of text.now) expr → MatchResult result (λ e. e ≡ expr) (λ end. end ≡ ParseEnd.Memory) }
 {
     let bytes = text.as_bytes();
-    if bytes.len() > LONGEST {
-        return Err(fault(65_536, QueryWhat::TooLong));
+    if bytes.len() > MOST_BYTES as usize {
+        return Err(fault(MOST_BYTES, QueryWhat::TooLong));
     }
     read(alloc, bytes)
 }
 
 // Reads the tokens from left to right.
 fn read(alloc: Global, text: &[u8]) -> Result<Expr, ParseEnd>
-    requires { length text.now ≤ 65536 }
+    requires { length text.now ≤ most_bytes }
     ensures { Reached (run start (tokens_of text.now)) result }
 {
     let mut parser = Parser::new(alloc);
     let mut at = 0;
     while at < text.len() {
         let (_, left) = text.split_at(at);
-        match read_token(alloc, &mut parser, at as u32, left) {
-            Ok(count) => at += count,
-            Err(end) => return Err(end),
-        }
+        let count = read_token(alloc, &mut parser, at as u32, left)?;
+        at += count;
     }
     parser.finish(at as u32)
 }
@@ -63,7 +61,7 @@ fn read_token(alloc: Global, parser: &mut Parser, at: u32, left: &[u8]) -> Resul
 {
     match left {
         [first, behind @ ..] => read_first(alloc, parser, at, left, *first, behind),
-        [] => Err(ParseEnd::Memory),
+        [] => unreachable!(),
     }
 }
 
@@ -83,12 +81,7 @@ fn read_first(
     if is_blank(first) {
         return Ok(1);
     }
-    let Ok(piece) = next_piece(alloc, left, first, behind) else {
-        return Err(ParseEnd::Memory);
-    };
-    let Piece { length, lexeme } = piece;
-    match parser.take(alloc, at, lexeme) {
-        Ok(()) => Ok(length),
-        Err(end) => Err(end),
-    }
+    let Piece { length, lexeme } = next_piece(alloc, left, first, behind)?;
+    parser.take(alloc, at, lexeme)?;
+    Ok(length)
 }

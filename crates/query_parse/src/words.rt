@@ -2,7 +2,7 @@
 ghost use Rattle.std.specs.Prelude.{◌≡◌, ◌==◌, IfOk};
 ghost use Rattle.std.specs.Str.{IsAscii};
 ghost use Rattle.std.specs.List.{list_all, list_any};
-ghost use Rattle.query_parse.specs.Lexemes.{is_letter, is_word_byte, is_name_byte, is_name, elem_named, kind_picked, begins_literal, literal_or_bad, plain_word, word_lexeme, is_blank};
+ghost use Rattle.query_parse.specs.Lexemes.{is_letter, is_word_byte, is_name_byte, is_name, kind_picked, begins_literal, literal_or_bad, plain_word, word_lexeme, is_blank};
 ghost use Rattle.value_text.specs.Numbers.{is_digit};
 
 use crate::lexeme::Lexeme;
@@ -89,42 +89,6 @@ fn begins_literal(word: &[u8]) -> bool
     }
 }
 
-fn elem_named(name: &[u8]) -> Option<Elem>
-    ensures { result ≡ elem_named name.now }
-{
-    if name == b"bool".as_slice() {
-        return Some(Elem::Bool);
-    }
-    if name == b"count".as_slice() {
-        return Some(Elem::Count);
-    }
-    if name == b"int".as_slice() {
-        return Some(Elem::Int);
-    }
-    if name == b"time".as_slice() {
-        return Some(Elem::Time);
-    }
-    if name == b"interval".as_slice() {
-        return Some(Elem::Span);
-    }
-    if name == b"string".as_slice() {
-        return Some(Elem::Text);
-    }
-    if name == b"enum".as_slice() {
-        return Some(Elem::Name);
-    }
-    if name == b"addr".as_slice() {
-        return Some(Elem::Addr);
-    }
-    if name == b"subnet".as_slice() {
-        return Some(Elem::Subnet);
-    }
-    if name == b"port".as_slice() {
-        return Some(Elem::Port);
-    }
-    None
-}
-
 // The kind that `:` and a type's name pick.
 fn kind_picked(word: &[u8]) -> Option<Elem>
     ensures { result ≡ kind_picked word.now }
@@ -133,7 +97,7 @@ fn kind_picked(word: &[u8]) -> Option<Elem>
         [] => None,
         [first, name @ ..] => {
             if *first == b':' {
-                elem_named(name)
+                Elem::named(name)
             } else {
                 None
             }
@@ -195,11 +159,11 @@ fn literal_or_bad(alloc: Global, word: &[u8]) -> Result<Lexeme, AllocError>
     ensures { IfOk result (λ lexeme. lexeme ≡ literal_or_bad word.now) }
 {
     let Ok(text) = str::from_utf8(word) else {
-        return Ok(Lexeme::Bad);
+        unreachable!()
     };
     match read_literal(alloc, text) {
         Ok(value) => Ok(Lexeme::Literal(Literal::Of(value))),
         Err(CellEnd::BadText) => Ok(Lexeme::Bad),
-        Err(CellEnd::Memory) => Err(AllocError),
+        Err(CellEnd::Memory) => unreachable!(),
     }
 }

@@ -11,7 +11,7 @@ returns-clause-reads c =
 
 pub returns-clause-fault : goal.returns-clause-fault
 returns-clause-fault c =
-    text_refused c.args.text.now c.read.result (omega (arith, c.if-bytes-gt-LONGEST.false, ap length c.as_bytes-bytes.ensures.value))
+    text_refused c.args.text.now c.read.result (omega (arith, c.if-bytes.false, ap length c.as_bytes-bytes.ensures.value))
     (subst (λ (t : List ℕ). Reached (run start (tokens_of t)) c.read.result) c.as_bytes-bytes.ensures.value c.read.ensures)
 
 pub returns-clause-read : goal.returns-clause-read
@@ -19,6 +19,6 @@ returns-clause-read c = λ expr short reads.
     text_in_grammar c.args.text.now expr c.read.result reads
     (subst (λ (t : List ℕ). Reached (run start (tokens_of t)) c.read.result) c.as_bytes-bytes.ensures.value c.read.ensures)
 
-pub returns-then-bytes-gt-LONGEST-clause-read : goal.returns-then-bytes-gt-LONGEST-clause-read
-returns-then-bytes-gt-LONGEST-clause-read c = λ expr short reads.
-    absurd (omega (arith, short, c.if-bytes-gt-LONGEST.true, ap length c.as_bytes-bytes.ensures.value))
+pub returns-then-bytes-clause-read : goal.returns-then-bytes-clause-read
+returns-then-bytes-clause-read c = λ expr short reads.
+    absurd (omega (arith, short, c.if-bytes.true, ap length c.as_bytes-bytes.ensures.value))
