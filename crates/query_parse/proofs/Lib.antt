@@ -10,3 +10,4 @@ pub mod Standing
 pub mod Stepping
 pub mod TokenLemmas
 mod Vectors
+pub mod WordLemmas

@@ -1,5 +1,6 @@
 -- Laws of queries, in their own words.
-use Rattle.std.specs.Prelude.{◌≡◌, ◌↔◌, ◌≤◌, ℕ, suc, List, ◌∷◌, length, IsTrue, Result, Ok, Err}
+use Rattle.std.specs.Prelude.{◌≡◌, ◌↔◌, ◌≤◌, ℕ, suc, Bool, true, false, List, [], ◌∷◌, ◌++◌, length, map, IsTrue, Result, Ok, Err}
+use Rattle.std.specs.List.{list_all}
 use Rattle.query_meaning.specs.declared.expr.Pick.{Pick}
 use Rattle.query_meaning.specs.declared.expr.Rel.{Rel}
 use Rattle.query_meaning.specs.declared.expr.Literal.{Literal}
@@ -8,7 +9,8 @@ use Rattle.query_parse.specs.declared.fault.QueryFault.{QueryFault}
 use Rattle.query_parse.specs.declared.fault.QueryWhat.{QueryWhat}
 use Rattle.query_parse.specs.Faults.{kinds_of, most_bytes, IsFault}
 use Rattle.query_parse.specs.Grammar.{Plain, Turned, unit_expr, turned, Reads}
-use Rattle.query_parse.specs.Lexemes.{is_blank}
+use Rattle.query_parse.specs.Lexemes.{is_blank, is_word_byte, word_lexeme}
+use Rattle.query_parse.specs.declared.lexeme.Lexeme.TheVariants as lexeme
 use Rattle.query_parse.specs.Parsing.{parsed}
 use Rattle.query_parse.specs.Tokens.{tokens_in, lexemes_of}
 
@@ -36,3 +38,17 @@ ParsedFaults = (text : List ℕ) (fault : QueryFault) → (parsed text ≡ Err f
 -- no text has two faults
 abbrev pub OneFault : Type 0
 OneFault = (text : List ℕ) (a b : ℕ) (what other : QueryWhat) → IsFault text a what → IsFault text b other → (a ≡ b) × (what ≡ other)
+
+-- one byte of words or more
+abbrev pub is_run : List ℕ → Bool
+is_run [] = false
+is_run (b ∷ bs) = list_all is_word_byte (b ∷ bs)
+
+-- words with a blank behind each
+abbrev pub words_text : List (List ℕ) → List ℕ
+words_text [] = []
+words_text (w ∷ words) = w ++ 32 ∷ words_text words
+
+-- words with blanks between them are read one by one, and each as far as it goes
+abbrev pub WordsAreRead : Type 0
+WordsAreRead = (words : List (List ℕ)) → list_all is_run words ≡ true → lexemes_of (words_text words) ≡ map word_lexeme words ++ lexeme.End ∷ []

@@ -1,5 +1,5 @@
 //! Laws of queries.
-ghost use Rattle.query_parse.specs.Laws.{BlankSkipped, ReversedIsTurned, ParsedReads, ParsedFaults, OneFault};
+ghost use Rattle.query_parse.specs.Laws.{BlankSkipped, ReversedIsTurned, ParsedReads, ParsedFaults, OneFault, WordsAreRead};
 
 /// A blank before tokens changes none of them, so blanks between tokens change nothing.
 pub fn blanks_are_skipped()
@@ -21,4 +21,9 @@ pub fn parsed_is_the_grammar()
 /// No text has two faults.
 pub fn faults_are_one()
     ensures { OneFault }
+{}
+
+/// Words with blanks between them are read one by one, and each as far as it goes.
+pub fn words_are_read()
+    ensures { WordsAreRead }
 {}

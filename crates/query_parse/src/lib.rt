@@ -11,7 +11,9 @@ mod tokens;
 mod words;
 
 pub use fault::{ParseEnd, QueryFault, QueryWhat};
-pub use laws::{blanks_are_skipped, faults_are_one, parsed_is_the_grammar, reversed_is_turned};
+pub use laws::{
+    blanks_are_skipped, faults_are_one, parsed_is_the_grammar, reversed_is_turned, words_are_read,
+};
 pub use query::parse;
 
 #[cfg(test)]
