@@ -1,13 +1,12 @@
 -- What the definitions give at chosen places.
-use Rattle.std.proofs.Common.{◌≡◌, ℕ, pos, Bool, true, false, List, [], ◌∷◌, ◌++◌, Option, Some, None, Result, Ok, Err, map, take, is_ok, refl}
+use Rattle.std.proofs.Common.{◌≡◌, ℕ, pos, true, false, List, [], ◌∷◌, ◌++◌, Some, None, Ok, Err, map, take, refl}
 use Rattle.source_block.specs.declared.stop.Stop.TheVariants.{AtEnd, Failed, AtBound}
 use Rattle.pcap_file.specs.Heads.{magic_of, head_of, has_head}
 use Rattle.pcap_file.specs.Reading.{headed_by, is_headed}
-use Rattle.pcap_file.specs.Records.{Answers, records, records_from, records_within, ended, nanoseconds}
-use Rattle.pcap_file.specs.declared.reader.Phase.TheVariants.{Start, Records, Ended}
+use Rattle.pcap_file.specs.Records.{records, records_from, records_within, ended, nanoseconds}
+use Rattle.pcap_file.specs.declared.reader.Phase.TheVariants.{Start, Ended}
 use Rattle.pcap_file.specs.declared.head.Endian.TheVariants.{Big, Little}
 use Rattle.pcap_file.specs.declared.head.Fraction.TheVariants.{Micro, Nano}
-use Rattle.pcap_file.specs.declared.head.FileHead.{FileHead}
 use Rattle.pcap_file.specs.declared.end.PcapEnd.TheVariants.{Done, Fault, ReadFault, TooLong}
 use Rattle.pcap_file.specs.declared.end.CaptureFault.TheVariants.{BadMagic, VersionUnknown, LinkUnknown, RecordTooLong, ShortHead, ShortRecord}
 

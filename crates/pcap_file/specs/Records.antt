@@ -1,5 +1,5 @@
 -- The records of a capture file, said of the whole list of its bytes.
-use Rattle.std.specs.Prelude.{◌≡◌, ◌≤◌, ◌++◌, Bool, true, false, Option, ℕ, zero, suc, ℤ, pos, ◌+◌, ◌*◌, ◌<◌, nat_lt, if◌then◌else◌, List, [], ◌∷◌, length, take, drop, Result, Ok, Err}
+use Rattle.std.specs.Prelude.{◌≡◌, ◌≤◌, ◌++◌, Bool, true, false, Option, ℕ, zero, suc, ℤ, pos, ◌+◌, ◌*◌, nat_lt, if◌then◌else◌, List, [], ◌∷◌, length, take, drop, Result, Ok, Err}
 use Rattle.std.specs.Io.KnownBytes.{prepend_known}
 use Rattle.vast_io.specs.Causes.{Rose}
 use Rattle.source_block.specs.Taking.{Stops}

@@ -1,6 +1,6 @@
 -- What the definitions give at chosen places.
-use Rattle.std.proofs.Common.{◌≡◌, ℕ, ◌≤◌, [], ◌∷◌, None, Some, Ok, refl, lit≤, arith}
-use Rattle.source_block.specs.Holding.{hold, most_bytes}
+use Rattle.std.proofs.Common.{◌≡◌, [], ◌∷◌, None, Some, Ok, refl, lit≤, arith}
+use Rattle.source_block.specs.Holding.{hold}
 use Rattle.source_block.specs.Taking.{Stops, Counts}
 use Rattle.source_block.specs.declared.stop.Stop.TheVariants.{AtEnd, Failed, AtBound}
 use Rattle.source_block.specs.declared.stop.Took.TheVariants.{Enough, Stopped}

@@ -1,5 +1,5 @@
 -- A line of the cells of a row, as they are written, is read as this row.
-use Rattle.std.proofs.Common.{◌≡◌, ℕ, ◌+◌, ◌≤◌, ◌==◌, ◌&&◌, Bool, true, false, List, [], ◌∷◌, ◌++◌, Option, None, Some, Result, Ok, length, map, nat_le, nat_lt, refl, ap, ◌∙◌, arith}
+use Rattle.std.proofs.Common.{◌≡◌, ℕ, ◌+◌, ◌==◌, ◌&&◌, true, false, List, [], ◌∷◌, ◌++◌, Option, None, Some, Ok, length, map, nat_le, nat_lt, refl, ap, ◌∙◌, arith}
 use Rattle.std.specs.List.{list_all, join_with_byte}
 use Rattle.std.proofs.lemmas.Bool.{and_parts, leb-true, ne_eqb, eq-eqb}
 use Rattle.std.proofs.lemmas.List.{length-map}
@@ -11,10 +11,8 @@ use Rattle.vast_value.specs.Headings.{Field, fits_field, fits_fields}
 use Rattle.vast_value.specs.Kinds.{has_kind}
 use Rattle.vast_value.specs.Layouts.{is_empty}
 use Rattle.value_text.specs.declared.Marks.{Marks}
-use Rattle.value_text.specs.Reading.{cell_read}
 use Rattle.value_text.specs.Writing.{AreUsual, cell_text, is_printable}
 use Rattle.value_writing.proofs.WritingCells.{cell_again, cell_printable}
-use Rattle.zeek_log.specs.declared.fault.At.{At}
 use Rattle.zeek_log.specs.Lines.{pieces_of}
 use Rattle.zeek_log.specs.Table.{cells_read, row_read, then_cell}
 

@@ -1,13 +1,12 @@
 -- What the definitions give at chosen places. In a text `^` stands for a tab and `$` for a newline.
-use Rattle.std.proofs.Common.{◌≡◌, ◌≢◌, ℕ, ◌==◌, Bool, true, false, if◌then◌else◌, List, [], ◌∷◌, ◌++◌, Option, None, Some, Result, Ok, Err, map, length, codes, nat_lt, nat_le, refl, ap, ◌∙◌, arith, sym}
+use Rattle.std.proofs.Common.{◌≡◌, ℕ, ◌==◌, true, false, if◌then◌else◌, List, [], ◌∷◌, Option, None, Some, Ok, Err, map, length, codes, nat_lt, refl, lit≤, ap, arith}
 use Rattle.std.proofs.lemmas.Bool.{lt-ltb, le-leb}
 use Rattle.source_block.specs.Holding.{most_bytes}
 use Rattle.source_block.specs.declared.stop.Stop.TheVariants.{AtEnd, Failed, AtBound}
 use Rattle.vast_value.specs.declared.kind.Elem.TheVariants as elem
-use Rattle.vast_value.specs.declared.kind.Kind.{Kind}
 use Rattle.vast_value.specs.declared.kind.Kind.TheVariants as kind
-use Rattle.vast_value.specs.declared.cell.Cell.TheVariants.{One, Many, Unset}
-use Rattle.vast_value.specs.declared.value.Value.TheVariants.{Count, Text}
+use Rattle.vast_value.specs.declared.cell.Cell.TheVariants.{One, Unset}
+use Rattle.vast_value.specs.declared.value.Value.TheVariants.{Count}
 use Rattle.vast_value.specs.Headings.{Heading}
 use Rattle.value_text.specs.declared.Marks.{Marks}
 use Rattle.value_text.specs.Reading.{cell_read, value_read}
@@ -18,7 +17,7 @@ use Rattle.zeek_log.specs.declared.step.ZeekEnd.TheVariants.{Done, Fault, ReadFa
 use Rattle.zeek_log.specs.Going.{lines_left}
 use Rattle.zeek_log.specs.Heads.{Told, opened, opening, separator_of, name_fault, names_read, kind_read, kinds_read}
 use Rattle.zeek_log.specs.Lines.{is_too_long, lines_of, pieces_of}
-use Rattle.zeek_log.specs.Reader.{Reads, Last, Ended, come_from, heading_told}
+use Rattle.zeek_log.specs.Reader.{State, Reads, Last, Ended, Reading, EndsAs, Follows, MayFollow, IsMetAtLast, CountsOf, come_from, heading_told}
 use Rattle.zeek_log.specs.Steps.{Steps, steps_of, steps_of_source, taken_steps}
 use Rattle.zeek_log.specs.Table.{LogStep, Head, Line, Outcome, Goes, Gives, Breaks, line_outcome}
 
@@ -273,3 +272,55 @@ headings = refl
 
 lines_to_come : lines_left (Reads told 5) ≡ 68719476733
 lines_to_come = refl
+
+-- What a reader answers
+
+abbrev reading : State → Reading
+reading state = record { state = state; held = codes "7"; taken = 5; kept = 65536 }
+
+-- the bound is the end only with 2^36 bytes taken, and all is read only where the source has no byte left
+not_too_long : EndsAs (reading (Ended TooLong)) [] None 5 TooLong → ⊥
+not_too_long e = let full = e.1 in omega arith
+
+not_done : EndsAs (reading (Ended Done)) [] (Some (7 ∷ [])) 5 Done → ⊥
+not_done e = let left = e.1.0 in cc
+
+-- nor is another end than the one to come
+not_failed : EndsAs (reading (Ended Done)) [] None 5 ReadFault → ⊥
+not_failed e = let other = ap (λ (s : Steps). s.end) e in cc
+
+-- behind a last line without its newline nothing follows, and it is given only at the source's end
+nothing_behind : MayFollow (Last told) (7 ∷ []) AtEnd → ⊥
+nothing_behind e = let none = e.0 in cc
+
+no_other_reason : MayFollow (Last told) [] Failed → ⊥
+no_other_reason e = let all = e.1 in cc
+
+last_at_end : IsMetAtLast (Last told) (Some (7 ∷ [])) 5 → ⊥
+last_at_end e = let left = e.0 in cc
+
+-- an end stays, and behind the last line comes `Done`
+end_stays : Follows (Ended TooLong) (reading (Ended TooLong)) (reading (Ended TooLong)) None None (Err TooLong)
+end_stays = (refl, refl, refl)
+
+no_other_end : Follows (Ended TooLong) (reading (Ended TooLong)) (reading (Ended TooLong)) None None (Err Done) → ⊥
+no_other_end e = let same = e.0 in cc
+
+last_is_done : Follows (Last told) (reading (Last told)) (reading (Ended Done)) None None (Err Done)
+last_is_done = (refl, refl, refl)
+
+-- a failed read counts a fault, no other answer does, nor an end that is given again
+one_more : CountsOf (Reads told 5) (Err ReadFault) 3 4
+one_more = lit≤ tt
+
+none_more : CountsOf (Reads told 5) (Err ReadFault) 3 3 → ⊥
+none_more e = omega arith
+
+none_at_done : CountsOf (Reads told 5) (Err Done) 3 4 → ⊥
+none_at_done e = omega arith
+
+none_again : CountsOf (Ended ReadFault) (Err ReadFault) 3 4 → ⊥
+none_again e = omega arith
+
+none_at_last : CountsOf (Last told) (Err ReadFault) 3 4 → ⊥
+none_at_last e = omega arith

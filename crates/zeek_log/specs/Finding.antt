@@ -1,5 +1,5 @@
 -- What is found at the front of the bytes that were taken of a source.
-use Rattle.std.specs.Prelude.{◌≡◌, ℕ, ◌+◌, ◌<◌, ◌≤◌, List, Option, None, Some, Result, Ok, Err, length}
+use Rattle.std.specs.Prelude.{◌≡◌, ℕ, ◌+◌, ◌<◌, ◌≤◌, List, Option, None, Some, Result, Ok, length}
 use Rattle.std.specs.declared.alloc.AllocError.{AllocError}
 use Rattle.memchr.specs.Find.{IsFirstByte, is_byte}
 use Rattle.vast_io.specs.Causes.{Rose}

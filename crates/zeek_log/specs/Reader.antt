@@ -1,5 +1,5 @@
 -- What contracts see of a reader, and what is still to come from it.
-use Rattle.std.specs.Prelude.{◌≡◌, ℕ, ◌+◌, ◌<◌, List, [], ◌++◌, Option, None, Some, Result, Ok, Err, length, IsSomeAnd, IsTrue, ⊤, ◌⊎◌}
+use Rattle.std.specs.Prelude.{◌≡◌, ℕ, ◌+◌, List, [], ◌++◌, Option, None, Some, Result, Ok, Err, length, IsSomeAnd, IsTrue, ⊤, ◌⊎◌}
 use Rattle.std.specs.Io.KnownBytes.{prepend_known}
 use Rattle.vast_io.specs.Causes.{Rose}
 use Rattle.vast_value.specs.Headings.{Heading, heading_of, fits_fields}

@@ -1,4 +1,4 @@
-use Rattle.std.proofs.Common.{◌≡◌, ◌↔◌, ℕ, ◌<◌, ◌≤◌, ◌%◌, ◌^◌, Bool, true, List, eqb, get_or, take, replicate, ap, sym, subst, ◌∙◌, arith, w8}
+use Rattle.std.proofs.Common.{◌≡◌, ◌↔◌, ℕ, ◌<◌, ◌%◌, ◌^◌, Bool, true, List, eqb, get_or, take, replicate, ap, sym, subst, ◌∙◌, arith, w8}
 use Rattle.std.proofs.lemmas.Simd.{tops_compared, mask_l-mod}
 use Rattle.std.specs.Int.{bit_at}
 use Rattle.std.specs.Simd.Lanes.{mask_l}

@@ -1,4 +1,4 @@
-use Rattle.std.proofs.Common.{◌≡◌, ℕ, ◌≤◌, ◌+◌, ◌-◌, ◌++◌, length, ap, subst, sym, ◌∙◌, refl, arith, length-append}
+use Rattle.std.proofs.Common.{◌≡◌, ◌+◌, ◌-◌, ◌++◌, length, ap, subst, ◌∙◌, refl, arith, length-append}
 use Rattle.std.proofs.lemmas.List.{length-drop}
 use Rattle.source_block.specs.Holding.{Hold}
 use Rattle.pcap_file.specs.Reading.{Reading, IsSound}
