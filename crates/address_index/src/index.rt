@@ -1,4 +1,4 @@
-ghost use Rattle.std.specs.Prelude.{◌≡◌, ◌+◌, ◌-◌, ◌^◌, ◌<◌, ◌≤◌, ◌++◌, ◌&&◌, List, [], length, IfOk, OnOk, IfErr, Option, ℕ, take, drop, ◌/◌, ◌%◌, nat_eq};
+ghost use Rattle.std.specs.Prelude.{◌≡◌, ◌+◌, ◌-◌, ◌^◌, ◌<◌, ◌≤◌, ◌++◌, ◌&&◌, List, [], length, IfOk, OnOk, IfErr, Option, ℕ, take, drop, ◌/◌, ◌%◌, nat_eq, true};
 ghost use Rattle.bits_law.specs.Keys.{answers, with_gap, with_key};
 ghost use Rattle.bits_law.specs.Numbers.{number_at, IsAnswer};
 ghost use Rattle.bits_law.specs.Refusal.{refusal, rows_to};
@@ -85,6 +85,14 @@ impl<B: Bits> AddrIndex<B> {
         Ok(AddrIndex {
             table: table.append(&other.table)?,
         })
+    }
+
+    /// The rows that have a key, as a copy.
+    pub fn present(&self) -> Result<B, AllocError>
+        ensures rows { IfOk result (λ b. length (B.bits b) ≡ length self.now.table.present) }
+        ensures keys { IfOk result (λ b. (keys : List (Option ℕ)) → Holds self.now.table keys → B.bits b ≡ answers (λ _. true) keys) }
+    {
+        self.table.present().duplicate()
     }
 
     /// The rows whose address is `addr`.

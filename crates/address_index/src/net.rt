@@ -1,4 +1,4 @@
-ghost use Rattle.std.specs.Prelude.{◌≡◌, ◌+◌, ◌-◌, ◌^◌, ◌<◌, ◌≤◌, ◌++◌, ◌/◌, ◌%◌, List, [], length, IfOk, OnOk, IfErr, Option, ℕ, take, drop, nat_eq};
+ghost use Rattle.std.specs.Prelude.{◌≡◌, ◌+◌, ◌-◌, ◌^◌, ◌<◌, ◌≤◌, ◌++◌, ◌/◌, ◌%◌, List, [], length, IfOk, OnOk, IfErr, Option, ℕ, take, drop, nat_eq, true};
 ghost use Rattle.bits_law.specs.Keys.{answers, with_gap, with_key};
 ghost use Rattle.bits_law.specs.Numbers.{has_bit, holds, number_at, IsAnswer};
 ghost use Rattle.bits_law.specs.Refusal.{refusal, rows_to};
@@ -105,6 +105,13 @@ impl<B: Bits> NetIndex<B> {
             addresses: AddrIndex { table },
             lengths,
         })
+    }
+
+    /// The rows that have a key, as a copy.
+    pub fn present(&self) -> Result<B, AllocError>
+        ensures { IfOk result (λ b. (keys : List (Option Subnet)) → HoldsNets self.now.addresses.table self.now.lengths keys → B.bits b ≡ answers (λ _. true) keys) }
+    {
+        self.lengths.present().duplicate()
     }
 
     /// The rows whose subnet is that of the first `bits` bits of `base`.

@@ -1,4 +1,5 @@
-ghost use Rattle.std.specs.Prelude.{◌≡◌, ◌≤◌, ◌∷◌, [], IfOk, replicate};
+ghost use Rattle.std.specs.Prelude.{◌≡◌, ◌%◌, ◌-◌, ◌^◌, ◌<◌, ◌≤◌, ◌∷◌, [], length, IfOk, replicate};
+ghost use Rattle.digit_index.specs.Digits.{product};
 
 use address_index::{AddrIndex, NetIndex};
 use bits_law::{Bits, BitsEnd, Order};
@@ -7,148 +8,53 @@ use runs_bitmap::RunsBitmap;
 use set_index::SetIndex;
 use slice_index::SliceIndex;
 use std::alloc::{AllocError, Global};
+use std::process::Abort;
 use std::test::Fail;
 use string_index::StringIndex;
 
 /// The text of a bitmap's bits.
-fn shown(rt: &HostRuntime, bits: &RunsBitmap) -> Result<String, AllocError> {
-    let mut text = String::new(rt.alloc());
+fn shown(alloc: Global, bits: &RunsBitmap) -> Result<String, AllocError> {
+    let mut text = String::new(alloc);
     for at in 0..bits.len() {
         text.push(if bits.get(at) { '1' } else { '0' })?;
     }
     Ok(text)
 }
 
-/// A row without a key is in no answer, and a relation with `e` takes the equal.
-#[test]
-fn numbers_are_compared_row_by_row(rt: HostRuntime) -> Result<(), Fail> {
-    let index: SliceIndex<RunsBitmap> = SliceIndex::new(rt.alloc(), 4)?;
-    assert!(rt; index.rows() == 0);
-    let index = index.add(0, 5)?;
-    assert!(rt; index.rows() <= 2);
-    let index = index.add(2, 9)?;
-    for (rel, answer) in [
-        (Order::Eq, "100"),
-        (Order::Ne, "001"),
-        (Order::Lt, "000"),
-        (Order::Le, "100"),
-        (Order::Gt, "001"),
-        (Order::Ge, "101"),
-    ] {
-        assert_eq!(rt; shown(&rt, &index.ask(rel, 5)?)?.as_str(), answer);
-    }
+/// The answer's bits are those of the text.
+fn check<R: Abort + AllocGlobal>(
+    rt: &R,
+    answer: Result<RunsBitmap, AllocError>,
+    text: &str,
+) -> Result<(), AllocError> {
+    let bits = answer?;
+    assert_eq!(rt; shown(rt.alloc(), &bits)?.as_str(), text);
     Ok(())
 }
 
-#[test]
-fn a_short_text_is_sure(rt: HostRuntime) -> Result<(), Fail> {
-    let index: StringIndex<RunsBitmap> = StringIndex::new(rt.alloc())?;
-    assert!(rt; index.rows() == 0);
-    let index = index.add(0, b"ab")?;
-    assert!(rt; index.rows() <= 1);
-    let index = index.add(1, b"")?;
-    assert_eq!(rt; shown(&rt, &index.as_long(1)?)?.as_str(), "10");
-    let (sure, maybe) = index.equal(b"ab")?;
-    assert_eq!(rt; shown(&rt, &sure)?.as_str(), "10");
-    assert_eq!(rt; shown(&rt, &maybe)?.as_str(), "10");
-    Ok(())
-}
+const RELATIONS: [Order; 6] = [
+    Order::Eq,
+    Order::Ne,
+    Order::Lt,
+    Order::Le,
+    Order::Gt,
+    Order::Ge,
+];
 
-#[test]
-fn a_bucket_is_taken_by_its_rows(rt: HostRuntime) -> Result<(), Fail> {
-    let index: SetIndex<RunsBitmap> = SetIndex::new(rt.alloc())?;
-    assert!(rt; index.rows() == 0);
-    let index = index.add(0, 1 << 3)?;
-    assert!(rt; index.rows() <= 3);
-    let index = index.pad(3)?;
-    assert_eq!(rt; shown(&rt, &index.taken(3)?)?.as_str(), "100");
-    Ok(())
-}
-
-#[test]
-fn an_address_lies_within_a_prefix(rt: HostRuntime) -> Result<(), Fail> {
-    let index: AddrIndex<RunsBitmap> = AddrIndex::new(rt.alloc())?;
-    assert!(rt; index.rows() == 0);
-    let index = index.add(0, 0x0a00_0001)?;
-    assert!(rt; index.rows() <= 2);
-    let index = index.add(2, 0x0a01_0001)?;
-    assert_eq!(rt; shown(&rt, &index.equal(0x0a00_0001)?)?.as_str(), "100");
-    assert_eq!(rt;
-        shown(&rt, &index.within(0x0a00_0000, 104)?)?.as_str(),
-        "101"
-    );
-    assert_eq!(rt;
-        shown(&rt, &index.within(0x0a01_0000, 112)?)?.as_str(),
-        "001"
-    );
-    assert_eq!(rt; shown(&rt, &index.within(0, 0)?)?.as_str(), "101");
-    Ok(())
-}
-
-#[test]
-fn subnets_lie_within_and_hold_each_other(rt: HostRuntime) -> Result<(), Fail> {
-    let index: NetIndex<RunsBitmap> = NetIndex::new(rt.alloc())?;
-    assert!(rt; index.rows() == 0);
-    let index = index.add(0, 0x0a00_0000, 104)?;
-    assert!(rt; index.rows() <= 1);
-    let index = index.add(1, 0x0a01_0000, 112)?;
-    let within = index.within(0x0a00_0000, 104)?;
-    assert_eq!(rt; shown(&rt, &within)?.as_str(), "11");
-    let covers = index.covers(0x0a02_0000, 112)?;
-    assert_eq!(rt; shown(&rt, &covers)?.as_str(), "10");
-    let equal = index.equal(0x0a01_0000, 112)?;
-    assert_eq!(rt; shown(&rt, &equal)?.as_str(), "01");
-    Ok(())
-}
-
-/// Two bases, both `base`.
-fn two_bases(alloc: Global, base: u16) -> Result<Bases, AllocError>
-    requires least { 2 ≤ base }
-    requires most { base ≤ 256 }
-    ensures { IfOk result (λ b. b ≡ base ∷ base ∷ []) }
-{
-    let mut bases = Bases::new(alloc);
-    bases.push(base)?;
-    bases.push(base)?;
-    Ok(bases)
-}
-
-#[test]
-fn digits_are_compared_row_by_row(rt: HostRuntime) -> Result<(), Fail> {
-    let bases = two_bases(rt.alloc(), 256)?;
-    let index: DigitIndex<RunsBitmap> = DigitIndex::new(rt.alloc(), bases, Coding::Range)?;
-    assert!(rt; index.rows() == 0);
-    let index = index.add(0, 53)?;
-    assert!(rt; index.rows() <= 1);
-    let index = index.add(1, 443)?;
-    assert!(rt; index.rows() <= 2);
-    let index = index.add(2, 53)?;
-    assert_eq!(rt; shown(&rt, &index.ask(Order::Eq, 53)?)?.as_str(), "101");
-    assert_eq!(rt; shown(&rt, &index.ask(Order::Gt, 53)?)?.as_str(), "010");
-    Ok(())
-}
-
-/// A slice index of four slices, with a row for each key.
-fn in_slices(alloc: Global, keys: &[u64]) -> Result<SliceIndex<RunsBitmap>, BitsEnd> {
-    let mut index = SliceIndex::new(alloc, 4)?;
-    for key in keys {
-        let row = index.rows();
-        index = index.add(row, *key % 16)?;
-    }
-    Ok(index)
-}
-
-/// A digit index of two bases of 4, with a row for each key.
-fn in_digits(alloc: Global, coding: Coding, keys: &[u64]) -> Result<DigitIndex<RunsBitmap>, BitsEnd>
-    ensures { IfOk result (λ i. i.bases ≡ 4 ∷ 4 ∷ []) }
-{
-    let mut index = DigitIndex::new(alloc, two_bases(alloc, 4)?, coding)?;
-    for key in keys {
-        let row = index.rows();
-        index = index.add(row, *key % 16)?;
-    }
-    Ok(index)
-}
+/// Small keys that a generator gave, with the least and the largest, and rows that have none.
+const KEYS: [Option<u64>; 11] = [
+    Some(3),
+    Some(14),
+    None,
+    Some(7),
+    Some(7),
+    Some(0),
+    Some(15),
+    Some(9),
+    Some(12),
+    Some(4),
+    None,
+];
 
 /// Whether a number stands in a relation to a key.
 fn related(n: u64, rel: Order, key: u64) -> bool {
@@ -162,48 +68,81 @@ fn related(n: u64, rel: Order, key: u64) -> bool {
     }
 }
 
-/// The answer of a relation, key by key.
-fn plain(rt: &HostRuntime, keys: &[u64], rel: Order, key: u64) -> Result<String, AllocError> {
-    let mut text = String::new(rt.alloc());
+/// The answer of a relation, row by row.
+fn plain(alloc: Global, keys: &[Option<u64>], rel: Order, key: u64) -> Result<String, AllocError> {
+    let mut text = String::new(alloc);
     for n in keys {
-        text.push(if related(*n, rel, key) { '1' } else { '0' })?;
+        let bit = match n {
+            Some(n) if related(*n, rel, key) => '1',
+            _ => '0',
+        };
+        text.push(bit)?;
     }
     Ok(text)
 }
 
-const RELATIONS: [Order; 6] = [
-    Order::Eq,
-    Order::Ne,
-    Order::Lt,
-    Order::Le,
-    Order::Gt,
-    Order::Ge,
-];
-
-/// Small keys that a generator gave, with the least and the largest.
-const KEYS: [u64; 9] = [3, 14, 7, 7, 0, 15, 9, 12, 4];
-
-#[test]
-fn slices_answer_as_the_plain_relation(rt: HostRuntime) -> Result<(), Fail> {
-    let index = in_slices(rt.alloc(), &KEYS)?;
-    for rel in RELATIONS {
-        for key in 0..16 {
-            let answer = shown(&rt, &index.ask(rel, key)?)?;
-            assert_eq!(rt; answer.as_str(), plain(&rt, &KEYS, rel, key)?.as_str());
+/// A slice index of `width` slices. No key is above `largest`.
+fn in_slices(
+    alloc: Global,
+    width: u8,
+    largest: u64,
+    keys: &[Option<u64>],
+) -> Result<SliceIndex<RunsBitmap>, BitsEnd>
+    requires some { 1 ≤ width }
+    requires narrow { width ≤ 64 }
+    requires small { largest < 2 ^ width }
+    ensures { IfOk result (λ i. i.width ≡ width) }
+{
+    let mut index = SliceIndex::new(alloc, width)?;
+    for (at, key) in keys.iter().enumerate() {
+        if let Some(key) = key {
+            let row = index.rows().max(at as u64);
+            index = index.add(row, (*key).min(largest))?;
         }
+    }
+    let rows = index.rows().max(keys.len() as u64);
+    index.pad(rows)
+}
+
+/// The index has these present rows, and answers each question by the text.
+fn slices_say<R: Abort + AllocGlobal>(
+    rt: &R,
+    index: &SliceIndex<RunsBitmap>,
+    present: &str,
+    asks: &[(Order, u64, &str)],
+) -> Result<(), AllocError> {
+    check(rt, index.present(), present)?;
+    for (rel, key, text) in asks {
+        check(rt, index.ask(*rel, *key), text)?;
     }
     Ok(())
 }
 
+/// A row without a key is in no answer, and a relation with `e` takes the equal.
 #[test]
-fn digits_answer_as_the_plain_relation(rt: HostRuntime) -> Result<(), Fail> {
-    for coding in [Coding::Equality, Coding::Range] {
-        let index = in_digits(rt.alloc(), coding, &KEYS)?;
-        for rel in RELATIONS {
-            for key in 0..16 {
-                let answer = shown(&rt, &index.ask(rel, key)?)?;
-                assert_eq!(rt; answer.as_str(), plain(&rt, &KEYS, rel, key)?.as_str());
-            }
+fn numbers_are_compared_row_by_row(rt: HostRuntime) -> Result<(), Fail> {
+    let index = in_slices(rt.alloc(), 4, 15, &[Some(5), None, Some(9)])?;
+    let asks = [
+        (Order::Eq, 5, "100"),
+        (Order::Ne, 5, "001"),
+        (Order::Lt, 5, "000"),
+        (Order::Le, 5, "100"),
+        (Order::Gt, 5, "001"),
+        (Order::Ge, 5, "101"),
+    ];
+    slices_say(&rt, &index, "101", &asks)?;
+    let joined = in_slices(rt.alloc(), 4, 15, &[None])?.append(&index)?;
+    slices_say(&rt, &joined, "0101", &[(Order::Eq, 5, "0100")])?;
+    Ok(())
+}
+
+#[test]
+fn slices_answer_as_the_plain_relation(rt: HostRuntime) -> Result<(), Fail> {
+    let index = in_slices(rt.alloc(), 4, 15, &KEYS)?;
+    for rel in RELATIONS {
+        for key in 0..16 {
+            let text = plain(rt.alloc(), &KEYS, rel, key)?;
+            check(&rt, index.ask(rel, key), text.as_str())?;
         }
     }
     Ok(())
@@ -211,160 +150,256 @@ fn digits_answer_as_the_plain_relation(rt: HostRuntime) -> Result<(), Fail> {
 
 #[test]
 fn numbers_of_one_bit_and_of_64_are_compared(rt: HostRuntime) -> Result<(), Fail> {
-    let index: SliceIndex<RunsBitmap> = SliceIndex::new(rt.alloc(), 1)?;
-    assert!(rt; index.rows() == 0);
-    let index = index.add(0, 1)?;
-    assert_eq!(rt; shown(&rt, &index.ask(Order::Ge, 1)?)?.as_str(), "1");
-    let index: SliceIndex<RunsBitmap> = SliceIndex::new(rt.alloc(), 64)?;
-    assert!(rt; index.rows() == 0);
-    let index = index.add(0, 0)?;
-    assert!(rt; index.rows() <= 1);
-    let index = index.add(1, u64::MAX)?;
-    assert_eq!(rt; shown(&rt, &index.ask(Order::Gt, 0)?)?.as_str(), "01");
-    assert_eq!(rt;
-        shown(&rt, &index.ask(Order::Lt, u64::MAX)?)?.as_str(),
-        "10"
-    );
+    let index = in_slices(rt.alloc(), 1, 1, &[Some(1), Some(0)])?;
+    let asks = [(Order::Ge, 1, "10"), (Order::Lt, 2, "11")];
+    slices_say(&rt, &index, "11", &asks)?;
+    let index = in_slices(rt.alloc(), 64, u64::MAX, &[Some(0), Some(u64::MAX)])?;
+    let asks = [(Order::Gt, 0, "01"), (Order::Lt, u64::MAX, "10")];
+    slices_say(&rt, &index, "11", &asks)?;
     Ok(())
 }
 
-/// Sixteen bases of 16, whose product is 2^64.
-fn sixteen_bases(alloc: Global) -> Result<Bases, AllocError>
-    ensures { IfOk result (λ b. b ≡ replicate 16 16) }
+/// `count` bases, all `base`.
+fn bases(alloc: Global, count: usize, base: u16) -> Result<Bases, AllocError>
+    requires few { count ≤ 16 }
+    requires least { 2 ≤ base }
+    requires most { base ≤ 256 }
+    ensures { IfOk result (λ b. b ≡ replicate count base) }
 {
     let mut bases = Bases::new(alloc);
-    for _ in 0..16usize {
-        bases.push(16)?;
+    for _ in 0..count {
+        bases.push(base)?;
     }
     Ok(bases)
 }
 
-#[test]
-fn sixteen_digits_reach_the_largest_key(rt: HostRuntime) -> Result<(), Fail> {
-    let bases = sixteen_bases(rt.alloc())?;
-    let index: DigitIndex<RunsBitmap> = DigitIndex::new(rt.alloc(), bases, Coding::Range)?;
-    assert!(rt; index.rows() == 0);
-    let index = index.add(0, 0)?;
-    assert!(rt; index.rows() <= 1);
-    let index = index.add(1, u64::MAX)?;
-    assert_eq!(rt; shown(&rt, &index.ask(Order::Gt, 0)?)?.as_str(), "01");
-    assert_eq!(rt;
-        shown(&rt, &index.ask(Order::Lt, u64::MAX)?)?.as_str(),
-        "10"
-    );
+/// A digit index. No key is above `largest`.
+fn in_digits(
+    alloc: Global,
+    bases: Bases,
+    coding: Coding,
+    largest: u64,
+    keys: &[Option<u64>],
+) -> Result<DigitIndex<RunsBitmap>, BitsEnd>
+    requires some { 1 ≤ length bases }
+    requires small { largest < product bases }
+    ensures bases { IfOk result (λ i. i.bases ≡ bases) }
+    ensures coding { IfOk result (λ i. i.coding ≡ coding) }
+{
+    let mut index = DigitIndex::new(alloc, bases, coding)?;
+    for (at, key) in keys.iter().enumerate() {
+        if let Some(key) = key {
+            let row = index.rows().max(at as u64);
+            index = index.add(row, (*key).min(largest))?;
+        }
+    }
+    let rows = index.rows().max(keys.len() as u64);
+    index.pad(rows)
+}
+
+/// The index has these present rows, and answers each question by the text. No key is above `largest`.
+fn digits_say<R: Abort + AllocGlobal>(
+    rt: &R,
+    index: &DigitIndex<RunsBitmap>,
+    largest: u64,
+    present: &str,
+    asks: &[(Order, u64, &str)],
+) -> Result<(), AllocError>
+    requires { largest < product index.now.bases }
+{
+    check(rt, index.present(), present)?;
+    for (rel, key, text) in asks {
+        check(rt, index.ask(*rel, (*key).min(largest)), text)?;
+    }
     Ok(())
 }
 
 #[test]
-fn digits_of_base_2_are_bits(rt: HostRuntime) -> Result<(), Fail> {
-    let bases = two_bases(rt.alloc(), 2)?;
-    let index: DigitIndex<RunsBitmap> = DigitIndex::new(rt.alloc(), bases, Coding::Equality)?;
-    assert!(rt; index.rows() == 0);
-    let index = index.add(0, 3)?;
-    assert!(rt; index.rows() <= 2);
-    let index = index.add(2, 0)?;
-    assert_eq!(rt; shown(&rt, &index.ask(Order::Ne, 3)?)?.as_str(), "001");
-    assert_eq!(rt; shown(&rt, &index.ask(Order::Le, 2)?)?.as_str(), "001");
+fn digits_are_compared_row_by_row(rt: HostRuntime) -> Result<(), Fail> {
+    let ports = [Some(53), Some(443), None, Some(53)];
+    let two = bases(rt.alloc(), 2, 256)?;
+    let index = in_digits(rt.alloc(), two, Coding::Range, 65_535, &ports)?;
+    let asks = [(Order::Eq, 53, "1001"), (Order::Gt, 53, "0100")];
+    digits_say(&rt, &index, 65_535, "1101", &asks)?;
     Ok(())
+}
+
+#[test]
+fn digits_join_behind_a_gap(rt: HostRuntime) -> Result<(), Fail> {
+    let two = bases(rt.alloc(), 2, 2)?;
+    let gap = in_digits(rt.alloc(), two, Coding::Equality, 3, &[None])?;
+    let two = bases(rt.alloc(), 2, 2)?;
+    let index = in_digits(rt.alloc(), two, Coding::Equality, 3, &[Some(3), Some(0)])?;
+    let asks = [(Order::Ne, 3, "001"), (Order::Le, 2, "001")];
+    digits_say(&rt, &gap.append(&index)?, 3, "011", &asks)?;
+    Ok(())
+}
+
+#[test]
+fn digits_answer_as_the_plain_relation(rt: HostRuntime) -> Result<(), Fail> {
+    for coding in [Coding::Equality, Coding::Range] {
+        let index = in_digits(rt.alloc(), bases(rt.alloc(), 2, 4)?, coding, 15, &KEYS)?;
+        for rel in RELATIONS {
+            for key in 0..16 {
+                let text = plain(rt.alloc(), &KEYS, rel, key)?;
+                check(&rt, index.ask(rel, key), text.as_str())?;
+            }
+        }
+    }
+    Ok(())
+}
+
+#[test]
+fn sixteen_digits_reach_the_largest_key(rt: HostRuntime) -> Result<(), Fail> {
+    let keys = [Some(0), Some(u64::MAX)];
+    let sixteen = bases(rt.alloc(), 16, 16)?;
+    let index = in_digits(rt.alloc(), sixteen, Coding::Range, u64::MAX, &keys)?;
+    let asks = [(Order::Gt, 0, "01"), (Order::Lt, u64::MAX, "10")];
+    digits_say(&rt, &index, u64::MAX, "11", &asks)?;
+    Ok(())
+}
+
+fn in_texts(alloc: Global, keys: &[Option<&[u8]>]) -> Result<StringIndex<RunsBitmap>, BitsEnd> {
+    let mut index = StringIndex::new(alloc)?;
+    for (at, key) in keys.iter().enumerate() {
+        if let Some(key) = key {
+            let row = index.rows().max(at as u64);
+            index = index.add(row, key)?;
+        }
+    }
+    let rows = index.rows().max(keys.len() as u64);
+    index.pad(rows)
+}
+
+/// The rows where each text is sure, and where it may be.
+fn texts_say<R: Abort + AllocGlobal>(
+    rt: &R,
+    index: &StringIndex<RunsBitmap>,
+    asks: &[(&[u8], &str, &str)],
+) -> Result<(), AllocError> {
+    for (text, sure, maybe) in asks {
+        let (surely, may_be) = index.equal(text)?;
+        check(rt, Ok(surely), sure)?;
+        check(rt, Ok(may_be), maybe)?;
+    }
+    Ok(())
+}
+
+#[test]
+fn a_short_text_is_sure(rt: HostRuntime) -> Result<(), Fail> {
+    let gap = in_texts(rt.alloc(), &[None])?;
+    let index = gap.append(&in_texts(rt.alloc(), &[Some(b"ab"), Some(b"")])?)?;
+    check(&rt, index.present(), "011")?;
+    check(&rt, index.as_long(1), "010")?;
+    texts_say(&rt, &index, &[(b"ab", "010", "010")])?;
+    Ok(())
+}
+
+/// Texts of 8, 9, 255 and 256 bytes, all of the letter a.
+#[test]
+fn texts_of_eight_bytes_are_sure_and_longer_ones_maybe(rt: HostRuntime) -> Result<(), Fail> {
+    let text = [b'a'; 256];
+    let (a, b, c, d) = (&text[..8], &text[..9], &text[..255], &text[..]);
+    let index = in_texts(rt.alloc(), &[Some(a), Some(b), Some(c), Some(d)])?;
+    let asks = [
+        (a, "1000", "1000"),
+        (b, "0000", "0100"),
+        (c, "0000", "0011"),
+        (d, "0000", "0011"),
+    ];
+    texts_say(&rt, &index, &asks)?;
+    check(&rt, index.as_long(256), "0011")?;
+    Ok(())
+}
+
+fn in_buckets(alloc: Global, keys: &[Option<u64>]) -> Result<SetIndex<RunsBitmap>, BitsEnd> {
+    let mut index = SetIndex::new(alloc)?;
+    for (at, key) in keys.iter().enumerate() {
+        if let Some(key) = key {
+            let row = index.rows().max(at as u64);
+            index = index.add(row, *key)?;
+        }
+    }
+    let rows = index.rows().max(keys.len() as u64);
+    index.pad(rows)
+}
+
+#[test]
+fn a_bucket_is_taken_by_its_rows(rt: HostRuntime) -> Result<(), Fail> {
+    let gap = in_buckets(rt.alloc(), &[None])?;
+    let index = gap.append(&in_buckets(rt.alloc(), &[Some(1 << 3), None, Some(0)])?)?;
+    check(&rt, index.present(), "0101")?;
+    check(&rt, index.taken(3), "0100")?;
+    Ok(())
+}
+
+fn in_addresses(alloc: Global, keys: &[Option<u128>]) -> Result<AddrIndex<RunsBitmap>, BitsEnd> {
+    let mut index = AddrIndex::new(alloc)?;
+    for (at, key) in keys.iter().enumerate() {
+        if let Some(key) = key {
+            let row = index.rows().max(at as u64);
+            index = index.add(row, *key)?;
+        }
+    }
+    let rows = index.rows().max(keys.len() as u64);
+    index.pad(rows)
+}
+
+#[test]
+fn an_address_is_found_behind_a_gap(rt: HostRuntime) -> Result<(), Fail> {
+    let gap = in_addresses(rt.alloc(), &[None])?;
+    let index = gap.append(&in_addresses(rt.alloc(), &[Some(7), Some(8)])?)?;
+    check(&rt, index.present(), "011")?;
+    check(&rt, index.equal(7), "010")?;
+    Ok(())
+}
+
+#[test]
+fn an_address_lies_within_a_prefix(rt: HostRuntime) -> Result<(), Fail> {
+    let index = in_addresses(rt.alloc(), &[Some(0x0a00_0001), None, Some(0x0a01_0001)])?;
+    check(&rt, index.within(0x0a00_0000, 104), "101")?;
+    check(&rt, index.within(0x0a01_0000, 112), "001")?;
+    check(&rt, index.within(0, 0), "101")?;
+    Ok(())
+}
+
+/// The index with one more subnet.
+fn with_net(
+    index: NetIndex<RunsBitmap>,
+    base: u128,
+    bits: u8,
+) -> Result<NetIndex<RunsBitmap>, BitsEnd>
+    requires narrow { bits ≤ 128 }
+    requires masked { base % 2 ^ (128 - bits) ≡ 0 }
+{
+    let row = index.rows();
+    index.add(row, base, bits)
+}
+
+#[test]
+fn subnets_lie_within_and_hold_each_other(rt: HostRuntime) -> Result<(), Fail> {
+    let index = with_net(NetIndex::new(rt.alloc())?, 0x0a00_0000, 104)?;
+    let index = with_net(index, 0x0a01_0000, 112)?;
+    check(&rt, index.within(0x0a00_0000, 104), "11")?;
+    check(&rt, index.covers(0x0a02_0000, 112), "10")?;
+    check(&rt, index.equal(0x0a01_0000, 112), "01")?;
+    Ok(())
+}
+
+/// All addresses, and one alone.
+fn all_and_one(alloc: Global) -> Result<NetIndex<RunsBitmap>, BitsEnd> {
+    let gap: NetIndex<RunsBitmap> = NetIndex::new(alloc)?;
+    let rows = gap.rows().max(1);
+    let index = with_net(with_net(NetIndex::new(alloc)?, 0, 0)?, 5, 128)?;
+    gap.pad(rows)?.append(&index)
 }
 
 #[test]
 fn the_whole_and_one_address_are_subnets(rt: HostRuntime) -> Result<(), Fail> {
-    let index: NetIndex<RunsBitmap> = NetIndex::new(rt.alloc())?;
-    assert!(rt; index.rows() == 0);
-    let index = index.add(0, 0, 0)?;
-    assert!(rt; index.rows() <= 1);
-    let index = index.add(1, 5, 128)?;
-    assert_eq!(rt; shown(&rt, &index.within(0, 0)?)?.as_str(), "11");
-    assert_eq!(rt; shown(&rt, &index.covers(5, 128)?)?.as_str(), "11");
-    assert_eq!(rt; shown(&rt, &index.equal(5, 128)?)?.as_str(), "01");
-    Ok(())
-}
-
-/// A string index of texts of 8, 9, 255 and 256 bytes, all of the letter a.
-fn in_texts(alloc: Global) -> Result<StringIndex<RunsBitmap>, BitsEnd> {
-    let text = [b'a'; 256];
-    let mut index = StringIndex::new(alloc)?;
-    for length in [8usize, 9, 255, 256] {
-        let row = index.rows();
-        index = index.add(row, &text[..length])?;
-    }
-    Ok(index)
-}
-
-#[test]
-fn texts_of_eight_bytes_are_sure_and_longer_ones_maybe(rt: HostRuntime) -> Result<(), Fail> {
-    let index = in_texts(rt.alloc())?;
-    for (length, sure, maybe) in [
-        (8, "1000", "1000"),
-        (9, "0000", "0100"),
-        (255, "0000", "0011"),
-        (256, "0000", "0011"),
-    ] {
-        let text = [b'a'; 256];
-        let rows = index.equal(&text[..length])?;
-        assert_eq!(rt; shown(&rt, &rows.0)?.as_str(), sure);
-        assert_eq!(rt; shown(&rt, &rows.1)?.as_str(), maybe);
-    }
-    assert_eq!(rt; shown(&rt, &index.as_long(256)?)?.as_str(), "0011");
-    Ok(())
-}
-
-#[test]
-fn numbers_join_behind_a_gap(rt: HostRuntime) -> Result<(), Fail> {
-    let gap: SliceIndex<RunsBitmap> = SliceIndex::new(rt.alloc(), 4)?;
-    assert!(rt; gap.rows() <= 1);
-    let index: SliceIndex<RunsBitmap> = SliceIndex::new(rt.alloc(), 4)?;
-    assert!(rt; index.rows() == 0);
-    let index = gap.pad(1)?.append(&index.add(0, 5)?)?;
-    assert_eq!(rt; shown(&rt, &index.ask(Order::Eq, 5)?)?.as_str(), "01");
-    let gap: DigitIndex<RunsBitmap> = DigitIndex::new(
-        rt.alloc(),
-        two_bases(rt.alloc(), 4)?,
-        Coding::Range,
-    )?;
-    assert!(rt; gap.rows() <= 1);
-    let index: DigitIndex<RunsBitmap> = DigitIndex::new(
-        rt.alloc(),
-        two_bases(rt.alloc(), 4)?,
-        Coding::Range,
-    )?;
-    assert!(rt; index.rows() == 0);
-    let index = gap.pad(1)?.append(&index.add(0, 5)?)?;
-    assert_eq!(rt; shown(&rt, &index.ask(Order::Eq, 5)?)?.as_str(), "01");
-    Ok(())
-}
-
-#[test]
-fn texts_and_buckets_join_behind_a_gap(rt: HostRuntime) -> Result<(), Fail> {
-    let gap: StringIndex<RunsBitmap> = StringIndex::new(rt.alloc())?;
-    assert!(rt; gap.rows() <= 1);
-    let index: StringIndex<RunsBitmap> = StringIndex::new(rt.alloc())?;
-    assert!(rt; index.rows() == 0);
-    let index = gap.pad(1)?.append(&index.add(0, b"ab")?)?;
-    assert_eq!(rt; shown(&rt, &index.as_long(1)?)?.as_str(), "01");
-    let gap: SetIndex<RunsBitmap> = SetIndex::new(rt.alloc())?;
-    assert!(rt; gap.rows() <= 1);
-    let index: SetIndex<RunsBitmap> = SetIndex::new(rt.alloc())?;
-    assert!(rt; index.rows() == 0);
-    let index = gap.pad(1)?.append(&index.add(0, 8)?)?;
-    assert_eq!(rt; shown(&rt, &index.taken(3)?)?.as_str(), "01");
-    Ok(())
-}
-
-#[test]
-fn addresses_and_subnets_join_behind_a_gap(rt: HostRuntime) -> Result<(), Fail> {
-    let gap: AddrIndex<RunsBitmap> = AddrIndex::new(rt.alloc())?;
-    assert!(rt; gap.rows() <= 1);
-    let index: AddrIndex<RunsBitmap> = AddrIndex::new(rt.alloc())?;
-    assert!(rt; index.rows() == 0);
-    let index = gap.pad(1)?.append(&index.add(0, 7)?)?;
-    assert_eq!(rt; shown(&rt, &index.equal(7)?)?.as_str(), "01");
-    let gap: NetIndex<RunsBitmap> = NetIndex::new(rt.alloc())?;
-    assert!(rt; gap.rows() <= 1);
-    let index: NetIndex<RunsBitmap> = NetIndex::new(rt.alloc())?;
-    assert!(rt; index.rows() == 0);
-    let index = gap.pad(1)?.append(&index.add(0, 0, 0)?)?;
-    assert_eq!(rt; shown(&rt, &index.covers(7, 128)?)?.as_str(), "01");
+    let index = all_and_one(rt.alloc())?;
+    check(&rt, index.present(), "011")?;
+    check(&rt, index.within(0, 0), "011")?;
+    check(&rt, index.covers(5, 128), "011")?;
+    check(&rt, index.equal(5, 128), "001")?;
     Ok(())
 }

@@ -1,4 +1,4 @@
-ghost use Rattle.std.specs.Prelude.{◌≡◌, ◌+◌, ◌-◌, ◌^◌, ◌<◌, ◌≤◌, ◌++◌, ◌&&◌, List, [], length, IfOk, OnOk, IfErr, Option, ℕ, min};
+ghost use Rattle.std.specs.Prelude.{◌≡◌, ◌+◌, ◌-◌, ◌^◌, ◌<◌, ◌≤◌, ◌++◌, ◌&&◌, List, [], length, IfOk, OnOk, IfErr, Option, ℕ, min, true};
 ghost use Rattle.bits_law.specs.Keys.{answers, with_gap, with_key};
 ghost use Rattle.bits_law.specs.Numbers.{has_bit};
 ghost use Rattle.bits_law.specs.Refusal.{refusal, rows_to};
@@ -84,6 +84,13 @@ impl<B: Bits> SetIndex<B> {
         Ok(SetIndex {
             table: table.append(&other.table)?,
         })
+    }
+
+    /// The rows that have a key, as a copy.
+    pub fn present(&self) -> Result<B, AllocError>
+        ensures { IfOk result (λ b. (keys : List (Option ℕ)) → Holds self.now.table keys → B.bits b ≡ answers (λ _. true) keys) }
+    {
+        self.table.present().duplicate()
     }
 
     /// The rows that take `bucket`.

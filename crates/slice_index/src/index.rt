@@ -1,4 +1,4 @@
-ghost use Rattle.std.specs.Prelude.{◌≡◌, ◌+◌, ◌-◌, ◌^◌, ◌<◌, ◌≤◌, ◌++◌, List, [], length, IfOk, OnOk, IfErr, Option, ℕ, pos, ◌+ℤ◌};
+ghost use Rattle.std.specs.Prelude.{◌≡◌, ◌+◌, ◌-◌, ◌^◌, ◌<◌, ◌≤◌, ◌++◌, List, [], length, IfOk, OnOk, IfErr, Option, ℕ, pos, ◌+ℤ◌, true};
 ghost use Rattle.bits_law.specs.Keys.{answers, with_gap, with_key};
 ghost use Rattle.bits_law.specs.Numbers.{holds};
 ghost use Rattle.bits_law.specs.Refusal.{refusal, rows_to};
@@ -108,6 +108,13 @@ impl<B: Bits> SliceIndex<B> {
             width,
             table: table.append(&other.table)?,
         })
+    }
+
+    /// The rows that have a key, as a copy.
+    pub fn present(&self) -> Result<B, AllocError>
+        ensures { IfOk result (λ b. (keys : List (Option ℕ)) → Holds self.now.width self.now.table keys → B.bits b ≡ answers (λ _. true) keys) }
+    {
+        self.table.present().duplicate()
     }
 
     /// The rows whose key stands in the relation `rel` to `key`.

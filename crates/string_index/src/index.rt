@@ -105,6 +105,13 @@ impl<B: Bits> StringIndex<B> {
         })
     }
 
+    /// The rows that have a key, as a copy.
+    pub fn present(&self) -> Result<B, AllocError>
+        ensures { IfOk result (λ b. (keys : List (Option (List ℕ))) → Holds self.now.table keys → B.bits b ≡ answers (λ _. true) keys) }
+    {
+        self.table.present().duplicate()
+    }
+
     /// The rows whose text has the length and the first eight bytes of `text`: those where equality is sure, which
     /// needs at most eight bytes, and those where it may be.
     pub fn equal(&self, text: &[u8]) -> Result<(B, B), AllocError>

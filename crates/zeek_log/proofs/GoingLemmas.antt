@@ -3,7 +3,8 @@ use Rattle.std.proofs.Common.{◌≡◌, ℕ, ◌+◌, ◌<◌, ◌≤◌, inl, 
 use Rattle.std.specs.Io.KnownBytes.{prepend_known}
 use Rattle.memchr.specs.Find.{IsFirstByte, is_byte}
 use Rattle.vast_value.specs.Headings.{Heading}
-use Rattle.zeek_log.specs.declared.block.Took.TheVariants as took
+use Rattle.source_block.specs.declared.stop.Stop.{Stop}
+use Rattle.source_block.specs.declared.stop.Stop.TheVariants.{AtEnd, Failed, AtBound}
 use Rattle.zeek_log.specs.declared.fault.LineEnd.{LineEnd}
 use Rattle.zeek_log.specs.declared.fault.LineEnd.TheVariants as lines
 use Rattle.zeek_log.specs.declared.fault.ZeekFault.TheVariants.{LineTooLong}
@@ -14,16 +15,16 @@ use Rattle.zeek_log.specs.declared.step.Step.TheVariants as step
 use Rattle.zeek_log.specs.declared.step.ZeekEnd.{ZeekEnd}
 use Rattle.zeek_log.specs.declared.step.ZeekEnd.TheVariants.{Done, Fault, ReadFault, TooLong, Memory}
 use Rattle.zeek_log.specs.Answers.{Does, Keeps, LineFits}
-use Rattle.zeek_log.specs.Finding.{Takes}
+use Rattle.source_block.specs.Holding.{Hold, most_bytes}
+use Rattle.source_block.specs.Taking.{Takes}
+use Rattle.source_block.proofs.TakeLemmas.{prepend_nothing, prepend_twice}
 use Rattle.zeek_log.specs.Going.{GoesOn, Meets, LineAnswer, answer_of, end_of_line, is_reading, reading, state_of}
 use Rattle.zeek_log.specs.Heads.{Told}
-use Rattle.zeek_log.specs.Lines.{Stop, AllThere, Failed, AtBound, lines_of}
-use Rattle.zeek_log.specs.Reader.{Reading, Ended, IsMet, EndsAs, Closes, StepFits, heading_told, to_come}
+use Rattle.zeek_log.specs.Lines.{lines_of}
+use Rattle.zeek_log.specs.Reader.{Reading, State, Reads, Last, Ended, IsMet, EndsAs, Closes, StepFits, heading_told, to_come}
 use Rattle.zeek_log.specs.Steps.{ended, end_of, follow, steps_from}
 use Rattle.zeek_log.specs.Table.{Outcome, line_outcome}
-use Rattle.zeek_log.specs.Taking.{Hold, most_bytes}
 use Rattle.zeek_log.proofs.LineLemmas.{line_first, line_last, line_long, no_line_failed, no_line_at_bound}
-use Rattle.zeek_log.proofs.TakeLemmas.{prepend_nothing, prepend_twice}
 
 keeps_same : (o : Option Heading) → Keeps o o
 keeps_same None = tt
@@ -50,12 +51,12 @@ goes_nowhere r a reads = record {
 
 ends_behind : (e : ZeekEnd) (old mid : Reading) (one two : List ℕ) (now : Option (List ℕ)) (taken : ℕ)
     → ((more : List ℕ) (stop : Stop) → to_come old (one ++ more) stop ≡ to_come mid more stop) → EndsAs mid two now taken e → EndsAs old (one ++ two) now taken e
-ends_behind Done old mid one two now taken goes ends = (goes two AllThere ∙ ends.0, ends.1)
+ends_behind Done old mid one two now taken goes ends = (goes two AtEnd ∙ ends.0, ends.1)
 ends_behind ReadFault old mid one two now taken goes ends = goes two Failed ∙ ends
 ends_behind TooLong old mid one two now taken goes ends = (goes two AtBound ∙ ends.0, ends.1)
 ends_behind (Fault n column what) old mid one two now taken goes (inl any) =
     inl (λ more stop. ap (λ (xs : List ℕ). to_come old xs stop) (append_assoc one two more) ∙ goes (two ++ more) stop ∙ any more stop)
-ends_behind (Fault n column what) old mid one two now taken goes (inr there) = inr (goes two AllThere ∙ there.0, there.1)
+ends_behind (Fault n column what) old mid one two now taken goes (inr there) = inr (goes two AtEnd ∙ there.0, there.1)
 ends_behind Memory old mid one two now taken goes ends = tt
 
 pub then_answer : (old mid new : Reading) (a b c : Option (List ℕ)) (r : Result (Option Step) ZeekEnd) → GoesOn old mid a b → LineAnswer mid new b c r → LineAnswer old new a c r
@@ -95,14 +96,14 @@ closes old new a b e last meets taken state = record {
 }
 
 -- bytes came behind those held
-pub goes_taking : (p : Phase) (told : Told) (n : ℕ) (old new : Hold) (a b : Option (List ℕ)) → is_reading (state_of p told n) ≡ true → Takes took.Some old new a b
+pub goes_taking : (p : Phase) (told : Told) (n : ℕ) (old new : Hold) (a b : Option (List ℕ)) → is_reading (state_of p told n) ≡ true → Takes old new a b
     → GoesOn (reading p told n old) (reading p told n new) a b
 goes_taking phase.Reads told n old new a b reads takes = record {
-  took = takes.bytes;
+  took = takes.took;
   left = takes.left;
   count = takes.count;
   is = λ more stop. ap (λ (xs : List ℕ). steps_from n (end_of stop) told (lines_of stop xs))
-      (sym (append_assoc old.bytes takes.bytes more) ∙ ap (λ (xs : List ℕ). xs ++ more) (sym takes.held));
+      (sym (append_assoc old.bytes takes.took more) ∙ ap (λ (xs : List ℕ). xs ++ more) (sym takes.held));
   reads = refl;
   keeps = keeps_same told.heading;
 }
@@ -156,11 +157,11 @@ ended_line phase.Reads told next n k old new (Err lines.Memory) now reads found 
 
 -- the last line, where no newline ends it
 last_steps : (told : Told) (n : ℕ) (held : List ℕ) (o : Outcome) → IsFirstByte (is_byte 10) held None → line_outcome told held ≡ o
-    → steps_from n Done told (lines_of AllThere (held ++ [])) ≡ follow n o (λ next. ended Done)
+    → steps_from n Done told (lines_of AtEnd (held ++ [])) ≡ follow n o (λ next. ended Done)
 last_steps told n held o none is =
-    ap (steps_from n Done told) (line_last held AllThere none) ∙ ap (λ (x : Outcome). follow n x (λ next. ended Done)) is
+    ap (steps_from n Done told) (line_last held AtEnd none) ∙ ap (λ (x : Outcome). follow n x (λ next. ended Done)) is
 
-may_last : (told : Told) (n : ℕ) (held more : List ℕ) (stop : Stop) (o : Outcome) → IsFirstByte (is_byte 10) held None → line_outcome told held ≡ o → more ≡ [] → stop ≡ AllThere
+may_last : (told : Told) (n : ℕ) (held more : List ℕ) (stop : Stop) (o : Outcome) → IsFirstByte (is_byte 10) held None → line_outcome told held ≡ o → more ≡ [] → stop ≡ AtEnd
     → steps_from n (end_of stop) told (lines_of stop (held ++ more)) ≡ follow n o (λ next. ended Done)
 may_last told n held more stop o none is nothing all =
     ap (λ (xs : List ℕ). steps_from n (end_of stop) told (lines_of stop (held ++ xs))) nothing
@@ -219,7 +220,7 @@ last_end phase.Reads told next n hold new lines.Memory now reads none met does s
 
 pub ended_line_at : (r : Reading) (p : Phase) (told next : Told) (n k : ℕ) (old new : Hold) (line seen : List ℕ) (outcome : Result (Option Step) LineEnd) (result : Result (Option Step) ZeekEnd)
     → r ≡ reading p told n old → is_reading r.state ≡ true → IsFirstByte (is_byte 10) r.held (Some k) → line ≡ take k seen → seen ≡ old.bytes
-    → new ≡ record { bytes = drop (k + 1) old.bytes; taken = old.taken }
+    → new ≡ record { bytes = drop (k + 1) old.bytes; taken = old.taken; kept = old.kept }
     → Does (line_outcome told line) next outcome → LineFits told.heading next.heading outcome → result ≡ answer_of n outcome
     → (now : Option (List ℕ)) → LineAnswer r (reading p next (n + 1) new) now now result
 ended_line_at r p told next n k old new line seen outcome result is reads found front same skipped does fits answer now =
@@ -284,19 +285,10 @@ last_end_at r p told next n hold new line (Err x) e is reads none same does answ
     (subst (λ (l : List ℕ). Does (line_outcome told l) next (Err x)) same does) taken))
 
 pub goes_at : (r : Reading) (p : Phase) (told : Told) (n : ℕ) (old new : Hold) (a b : Option (List ℕ)) → r ≡ reading p told n old → is_reading r.state ≡ true
-    → Takes took.Some old new a b → GoesOn r (reading p told n new) a b
+    → Takes old new a b → GoesOn r (reading p told n new) a b
 goes_at r p told n old new a b is reads takes =
     subst (λ (x : Reading). GoesOn x (reading p told n new) a b) (sym is)
     (goes_taking p told n old new a b (subst (λ (x : Reading). is_reading x.state ≡ true) is reads) takes)
-
-pub takes_at_end : (old new : Hold) (a b : Option (List ℕ)) → Takes took.AtEnd old new a b → Takes took.Some old new a b
-takes_at_end old new a b t = record { bytes = t.bytes; left = t.left; count = t.count; held = t.held }
-
-takes_failed : (old new : Hold) (a b : Option (List ℕ)) → Takes took.Failed old new a b → Takes took.Some old new a b
-takes_failed old new a b t = record { bytes = t.bytes; left = t.left; count = t.count; held = t.held }
-
-takes_at_bound : (old new : Hold) (a b : Option (List ℕ)) → Takes took.AtBound old new a b → Takes took.Some old new a b
-takes_at_bound old new a b t = record { bytes = t.bytes; left = t.left; count = t.count; held = t.held }
 
 -- ends where no line was found
 
@@ -311,42 +303,31 @@ long_meets phase.Reads told n hold b reads none many = record {
   is = inl (λ more stop. line_long n (end_of stop) told stop hold.bytes more none many);
 }
 
-failed_meets : (p : Phase) (told : Told) (n : ℕ) (hold : Hold) (b : Option (List ℕ)) → is_reading (state_of p told n) ≡ true → IsFirstByte (is_byte 10) hold.bytes None → length hold.bytes ≤ 1048576
-    → Meets (reading p told n hold) (reading p told n hold) b b ReadFault
-failed_meets phase.Last told n hold b reads none few = cc
-failed_meets (phase.Ended e) told n hold b reads none few = cc
-failed_meets phase.Reads told n hold b reads none few = record {
-  took = [];
-  left = sym (prepend_nothing b);
-  count = omega arith;
-  is = ap (steps_from n ReadFault told) (line_last hold.bytes Failed none ∙ no_line_failed hold.bytes few);
-}
-
-bound_meets : (p : Phase) (told : Told) (n : ℕ) (hold : Hold) (b : Option (List ℕ)) → is_reading (state_of p told n) ≡ true → IsFirstByte (is_byte 10) hold.bytes None → length hold.bytes ≤ 1048576
-    → hold.taken ≡ most_bytes → Meets (reading p told n hold) (reading p told n hold) b b TooLong
-bound_meets phase.Last told n hold b reads none few full = cc
-bound_meets (phase.Ended e) told n hold b reads none few full = cc
-bound_meets phase.Reads told n hold b reads none few full = record {
-  took = [];
-  left = sym (prepend_nothing b);
-  count = omega arith;
-  is = (ap (steps_from n TooLong told) (line_last hold.bytes AtBound none ∙ no_line_at_bound hold.bytes few), full);
-}
-
 pub long_at : (r : Reading) (p : Phase) (told : Told) (n : ℕ) (old new : Hold) (a b : Option (List ℕ)) → r ≡ reading p told n old → is_reading r.state ≡ true
-    → Takes took.Some old new a b → IsFirstByte (is_byte 10) new.bytes None → 1048576 < length new.bytes → Meets r (reading p told n new) a b (Fault n 0 LineTooLong)
+    → Takes old new a b → IsFirstByte (is_byte 10) new.bytes None → 1048576 < length new.bytes → Meets r (reading p told n new) a b (Fault n 0 LineTooLong)
 long_at r p told n old new a b is reads takes none many =
     then_answer r (reading p told n new) (reading p told n new) a b b (Err (Fault n 0 LineTooLong)) (goes_at r p told n old new a b is reads takes)
     (long_meets p told n new b (subst (λ (x : Reading). is_reading x.state ≡ true) is reads) none many)
 
-pub failed_at : (r : Reading) (p : Phase) (told : Told) (n : ℕ) (old new : Hold) (a b : Option (List ℕ)) → r ≡ reading p told n old → is_reading r.state ≡ true
-    → Takes took.Failed old new a b → IsFirstByte (is_byte 10) new.bytes None → length new.bytes ≤ 1048576 → Meets r (reading p told n new) a b ReadFault
-failed_at r p told n old new a b is reads takes none few =
-    then_answer r (reading p told n new) (reading p told n new) a b b (Err ReadFault) (goes_at r p told n old new a b is reads (takes_failed old new a b takes))
-    (failed_meets p told n new b (subst (λ (x : Reading). is_reading x.state ≡ true) is reads) none few)
+-- where no more bytes come, and those held are no line
+pub failed_there : (s : State) (held : List ℕ) (taken kept : ℕ) (now : Option (List ℕ)) → is_reading s ≡ true → IsFirstByte (is_byte 10) held None → length held ≤ 1048576
+    → Meets (record { state = s; held = held; taken = taken; kept = kept }) (record { state = s; held = held; taken = taken; kept = kept }) now now ReadFault
+failed_there (Last told) held taken kept now reads none few = cc
+failed_there (Ended e) held taken kept now reads none few = cc
+failed_there (Reads told n) held taken kept now reads none few = record {
+  took = [];
+  left = sym (prepend_nothing now);
+  count = omega arith;
+  is = ap (steps_from n ReadFault told) (line_last held Failed none ∙ no_line_failed held few);
+}
 
-pub bound_at : (r : Reading) (p : Phase) (told : Told) (n : ℕ) (old new : Hold) (a b : Option (List ℕ)) → r ≡ reading p told n old → is_reading r.state ≡ true
-    → Takes took.AtBound old new a b → IsFirstByte (is_byte 10) new.bytes None → length new.bytes ≤ 1048576 → new.taken ≡ most_bytes → Meets r (reading p told n new) a b TooLong
-bound_at r p told n old new a b is reads takes none few full =
-    then_answer r (reading p told n new) (reading p told n new) a b b (Err TooLong) (goes_at r p told n old new a b is reads (takes_at_bound old new a b takes))
-    (bound_meets p told n new b (subst (λ (x : Reading). is_reading x.state ≡ true) is reads) none few full)
+pub bound_there : (s : State) (held : List ℕ) (taken kept : ℕ) (now : Option (List ℕ)) → is_reading s ≡ true → IsFirstByte (is_byte 10) held None → length held ≤ 1048576
+    → taken ≡ most_bytes → Meets (record { state = s; held = held; taken = taken; kept = kept }) (record { state = s; held = held; taken = taken; kept = kept }) now now TooLong
+bound_there (Last told) held taken kept now reads none few full = cc
+bound_there (Ended e) held taken kept now reads none few full = cc
+bound_there (Reads told n) held taken kept now reads none few full = record {
+  took = [];
+  left = sym (prepend_nothing now);
+  count = omega arith;
+  is = (ap (steps_from n TooLong told) (line_last held AtBound none ∙ no_line_at_bound held few), full);
+}

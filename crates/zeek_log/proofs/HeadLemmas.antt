@@ -11,10 +11,10 @@ use Rattle.vast_value.specs.declared.layout.BadLayout.{BadLayout}
 use Rattle.vast_value.specs.declared.layout.Layout.{Layout}
 use Rattle.vast_value.specs.Fit.{fits_columns}
 use Rattle.vast_value.specs.Headings.{Field, Heading, field_of, heading_of, field_fault, fields_fault, heading_fault, fits_fields}
-use Rattle.vast_value.specs.Layouts.{is_empty, layout_fault}
+use Rattle.vast_value.specs.Layouts.{is_empty, layout_fault, name_fault as bad_name}
 use Rattle.vast_value.proofs.HeadingLemmas.{fits_fields-map, heading_fault-map}
 use Rattle.zeek_log.specs.declared.fault.At.{At}
-use Rattle.zeek_log.specs.declared.fault.ZeekFault.TheVariants.{FieldsTypes, TooManyColumns, EmptyName, SameName}
+use Rattle.zeek_log.specs.declared.fault.ZeekFault.TheVariants.{FieldsTypes}
 use Rattle.zeek_log.specs.Heads.{name_fault, names_fault, kind_read, kinds_read}
 use Rattle.zeek_log.specs.Lines.{pieces_of}
 use Rattle.zeek_log.specs.Naming.{are_named, is_short}
@@ -41,16 +41,14 @@ among-map : (name : List ℕ) (before : List Field) → list_any (λ g. bytes_eq
 among-map name [] = refl
 among-map name (f ∷ fs) = grind (arith, among-map name fs)
 
+nothing_mapped : {X Y : Type 0} (f : X → Y) (o : Option X) → option_map f o ≡ None → o ≡ None
+nothing_mapped f None e = refl
+nothing_mapped f (Some x) e = absurd (some_none refl e)
+
 field_sound : (n : ℕ) (before : List Field) (f : Field) → name_fault n (map name_of before) f.name ≡ None → field_fault n before f ≡ None
-field_sound n before f fine = by (nat_lt 256 n) refl (is_empty f.name) refl (list_any (λ g. bytes_eq g.name f.name) before) refl
-  where
-    by : (a : Bool) → nat_lt 256 n ≡ a → (b : Bool) → is_empty f.name ≡ b → (c : Bool) → list_any (λ g. bytes_eq g.name f.name) before ≡ c → field_fault n before f ≡ None
-    by true p b q c r = let bad : name_fault n (map name_of before) f.name ≡ Some (record { column = n; what = TooManyColumns }) = rw p refl in absurd (some_none bad fine)
-    by false p true q c r = let bad : name_fault n (map name_of before) f.name ≡ Some (record { column = n; what = EmptyName }) = rw (p, q) refl in absurd (some_none bad fine)
-    by false p false q true r =
-        let among : list_any (λ other. bytes_eq other f.name) (map name_of before) ≡ true = sym (among-map f.name before) ∙ r in
-        let bad : name_fault n (map name_of before) f.name ≡ Some (record { column = n; what = SameName }) = rw (p, q, among) refl in absurd (some_none bad fine)
-    by false p false q false r = rw (p, q, r) refl
+field_sound n before f fine =
+    ap (bad_name n f.name) (among-map f.name before)
+    ∙ nothing_mapped _ (bad_name n f.name (list_any (λ other. bytes_eq other f.name) (map name_of before))) fine
 
 map_push : (before : List Field) (f : Field) → map name_of (before ++ f ∷ []) ≡ map name_of before ++ f.name ∷ []
 map_push [] f = refl

@@ -1,8 +1,9 @@
-pub mod ByteLemmas
 pub mod CutLemmas
+pub mod FindLemmas
 pub mod GoingLemmas
 pub mod HeadLemmas
+pub mod LawLemmas
 pub mod LineLemmas
 pub mod NearLemmas
 pub mod PieceLemmas
-pub mod TakeLemmas
+mod Vectors

@@ -5,7 +5,9 @@ use Rattle.std.proofs.lemmas.Bool.{lt-ltb, le-ltb}
 use Rattle.std.proofs.lemmas.List.{append-nil, drop-append-le, take-append-le, get_or_append_left, length-append}
 use Rattle.memchr.specs.Find.{IsFirstByte, is_byte}
 use Rattle.zeek_log.specs.Heads.{Told}
-use Rattle.zeek_log.specs.Lines.{Stop, AllThere, Failed, AtBound, is_newline, is_too_long, last_line, kept_lines, lines_of}
+use Rattle.source_block.specs.declared.stop.Stop.{Stop}
+use Rattle.source_block.specs.declared.stop.Stop.TheVariants.{AtEnd, Failed, AtBound}
+use Rattle.zeek_log.specs.Lines.{is_newline, is_too_long, last_line, kept_lines, lines_of}
 use Rattle.zeek_log.specs.Table.{Outcome, Breaks, line_outcome}
 use Rattle.zeek_log.specs.declared.fault.ZeekFault.TheVariants.{LineTooLong}
 use Rattle.zeek_log.specs.declared.step.ZeekEnd.{ZeekEnd}
@@ -92,7 +94,7 @@ long_steps n end told line lines long =
     ap (λ (o : Outcome). follow n o (λ next. steps_from (n + 1) end next lines)) (breaks_long told line long)
 
 long_last : (stop : Stop) (line : List ℕ) → is_too_long line ≡ true → last_line stop line ≡ line ∷ []
-long_last AllThere line long = refl
+long_last AtEnd line long = refl
 long_last Failed line long = rw long refl
 long_last AtBound line long = rw long refl
 

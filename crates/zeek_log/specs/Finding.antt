@@ -1,59 +1,25 @@
--- What is taken of a source until a line stands at the front.
-use Rattle.std.specs.Prelude.{◌≡◌, ℕ, ◌+◌, ◌<◌, ◌≤◌, List, ◌++◌, Option, None, Some, length, ⊤}
-use Rattle.std.specs.Io.KnownBytes.{prepend_known}
+-- What is found at the front of the bytes that were taken of a source.
+use Rattle.std.specs.Prelude.{◌≡◌, ℕ, ◌+◌, ◌<◌, ◌≤◌, List, Option, None, Some, Result, Ok, Err, length}
+use Rattle.std.specs.declared.alloc.AllocError.{AllocError}
 use Rattle.memchr.specs.Find.{IsFirstByte, is_byte}
 use Rattle.vast_io.specs.Causes.{Rose}
-use Rattle.vast_io.specs.Told.{IsAtEnd}
-use Rattle.zeek_log.specs.Taking.{Hold, most_bytes}
-use Rattle.zeek_log.specs.declared.block.Took.{Took}
-use Rattle.zeek_log.specs.declared.block.Took.TheVariants as took
-use Rattle.zeek_log.specs.declared.block.Found.{Found}
-use Rattle.zeek_log.specs.declared.block.Found.TheVariants as found
+use Rattle.source_block.specs.Holding.{Hold}
+use Rattle.source_block.specs.Taking.{Stops}
+use Rattle.source_block.specs.declared.stop.Stop.TheVariants as stop
+use Rattle.zeek_log.specs.declared.finding.Found.{Found}
+use Rattle.zeek_log.specs.declared.finding.Found.TheVariants.{Line, Long, Stopped}
 
--- bytes of the source were taken, and stand behind those held; where memory was wanting, no more than these are held
-abbrev pub Holds : Took → List ℕ → List ℕ → Type 0
-Holds took.Memory new all = length new ≤ length all
-Holds _ new all = new ≡ all
+-- The first newline of the bytes held, or that there is none: they are too many for a line, or no more bytes come.
+abbrev pub Finds : Found → Hold → Option (List ℕ) → Type 0
+Finds (Line n) hold now = IsFirstByte (is_byte 10) hold.bytes (Some n)
+Finds Long hold now = IsFirstByte (is_byte 10) hold.bytes None × (1048576 < length hold.bytes)
+Finds (Stopped why) hold now = IsFirstByte (is_byte 10) hold.bytes None × (length hold.bytes ≤ 1048576) × Stops why now hold.taken
 
-pub record Takes (took : Took) (old new : Hold) (before now : Option (List ℕ)) : Type 0 where
-  pub bytes : List ℕ
-  pub left : before ≡ prepend_known bytes now
-  pub count : new.taken ≡ old.taken + length bytes
-  pub held : Holds took new.bytes (old.bytes ++ bytes)
+-- the count of the source's faults rose exactly where a failed read is the reason
+abbrev pub FindCounts : Result Found AllocError → ℕ → ℕ → Type 0
+FindCounts (Ok (Stopped stop.Failed)) before now = Rose before now
+FindCounts _ before now = now ≡ before
 
--- how the taking went
-abbrev pub Tells : Took → Hold → Hold → Option (List ℕ) → Type 0
-Tells took.Some old new now = old.taken < new.taken
-Tells took.AtEnd old new now = (new ≡ old) × IsAtEnd now × (new.taken < most_bytes)
-Tells took.Failed old new now = new ≡ old
-Tells took.AtBound old new now = (new ≡ old) × (new.taken ≡ most_bytes)
-Tells took.Memory old new now = ⊤
-
--- the count of faults rose where a read failed, and nowhere else
-abbrev pub Counts : Took → ℕ → ℕ → Type 0
-Counts took.Failed before now = Rose before now
-Counts _ before now = now ≡ before
-
--- the taking that was last, as what was found says it
-abbrev pub took_of : Found → Took
-took_of (found.Line n) = took.Some
-took_of found.Long = took.Some
-took_of found.AtEnd = took.AtEnd
-took_of found.Failed = took.Failed
-took_of found.AtBound = took.AtBound
-took_of found.Memory = took.Memory
-
--- the first newline of the bytes held, or that there is none, and whether they are too many for a line
-abbrev pub Finds : Found → List ℕ → Type 0
-Finds (found.Line n) held = IsFirstByte (is_byte 10) held (Some n)
-Finds found.Long held = IsFirstByte (is_byte 10) held None × (1048576 < length held)
-Finds found.AtEnd held = IsFirstByte (is_byte 10) held None
-Finds found.Failed held = IsFirstByte (is_byte 10) held None × (length held ≤ 1048576)
-Finds found.AtBound held = IsFirstByte (is_byte 10) held None × (length held ≤ 1048576)
-Finds found.Memory held = ⊤
-
--- where no line was found, why no more was taken
-abbrev pub FindsWhy : Found → ℕ → Option (List ℕ) → Type 0
-FindsWhy found.AtEnd taken now = IsAtEnd now × (taken < most_bytes)
-FindsWhy found.AtBound taken now = taken ≡ most_bytes
-FindsWhy _ taken now = ⊤
+-- memory for the longest line and a block
+abbrev pub most_kept : ℕ
+most_kept = 1048576 + 65536

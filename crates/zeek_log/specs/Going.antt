@@ -7,14 +7,14 @@ use Rattle.zeek_log.specs.declared.fault.LineEnd.TheVariants.{Bad}
 use Rattle.zeek_log.specs.declared.fault.LineEnd.TheVariants as lines
 use Rattle.zeek_log.specs.declared.step.ZeekEnd.TheVariants.{Fault}
 use Rattle.zeek_log.specs.declared.step.ZeekEnd.TheVariants as ends
-use Rattle.zeek_log.specs.Taking.{Hold, most_bytes}
+use Rattle.source_block.specs.Holding.{Hold, most_bytes}
+use Rattle.source_block.specs.declared.stop.Stop.{Stop}
 use Rattle.zeek_log.specs.declared.reader.Phase.{Phase}
 use Rattle.zeek_log.specs.declared.reader.Phase.TheVariants as phase
 use Rattle.zeek_log.specs.declared.step.Step.{Step}
 use Rattle.zeek_log.specs.declared.step.ZeekEnd.{ZeekEnd}
 use Rattle.zeek_log.specs.Answers.{Keeps}
 use Rattle.zeek_log.specs.Heads.{Told}
-use Rattle.zeek_log.specs.Lines.{Stop}
 use Rattle.zeek_log.specs.Reader.{Reading, State, Reads, Last, Ended, to_come, StepsOn, EndsAs, heading_told, StepFits}
 
 -- a reader's state by how far it is, what is known, and the number of the next line
@@ -55,7 +55,7 @@ LineAnswer old new before now (Err e) = Meets old new before now e
 
 -- a reader by its parts
 abbrev pub reading : Phase → Told → ℕ → Hold → Reading
-reading phase told n hold = record { state = state_of phase told n; held = hold.bytes; taken = hold.taken }
+reading phase told n hold = record { state = state_of phase told n; held = hold.bytes; taken = hold.taken; kept = hold.kept }
 
 -- each line has a byte, so there are no more than this
 abbrev pub lines_left : State → ℕ

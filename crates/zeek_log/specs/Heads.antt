@@ -3,16 +3,19 @@ use Rattle.std.specs.Prelude.{ℕ, ◌+◌, ◌-◌, ◌*◌, Bool, ◌&&◌, �
 use Rattle.std.specs.List.{list_any, starts_with, ends_with}
 use Rattle.std.specs.Option.{option_map, option_and_then, option_or, ok_or}
 use Rattle.std.specs.Str.{bytes_eq}
-use Rattle.vast_value.specs.declared.kind.Elem.{Elem}
-use Rattle.vast_value.specs.declared.kind.Elem.TheVariants as elem
 use Rattle.vast_value.specs.declared.kind.Kind.{Kind}
 use Rattle.vast_value.specs.declared.kind.Kind.TheVariants as kind
 use Rattle.vast_value.specs.Headings.{Heading}
-use Rattle.vast_value.specs.Layouts.{is_empty}
+use Rattle.vast_value.specs.Kinds.{elem_named}
+use Rattle.vast_value.specs.Layouts.{name_fault as bad_name}
+use Rattle.vast_value.specs.declared.layout.BadLayout.{BadLayout}
+use Rattle.vast_value.specs.declared.layout.BadLayout.TheVariants as layouts
 use Rattle.value_text.specs.declared.Marks.{Marks}
-use Rattle.value_text.specs.Addresses.{is_hexadecimal, digit_value}
+use Rattle.value_text.specs.Addresses.{digit_value}
+use Rattle.value_text.specs.Escapes.{is_byte_escape}
 use Rattle.zeek_log.specs.declared.fault.At.{At}
-use Rattle.zeek_log.specs.declared.fault.ZeekFault.TheVariants.{TooManyColumns, EmptyName, SameName, UnknownKind, Floating}
+use Rattle.zeek_log.specs.declared.fault.ZeekFault.{ZeekFault}
+use Rattle.zeek_log.specs.declared.fault.ZeekFault.TheVariants.{NoHead, TooManyColumns, EmptyName, SameName, UnknownKind, Floating}
 
 -- The separator of cells, the marks, the path and the names of the columns (empty where none is set), and the heading of
 -- the layout that `#types` gave, if there is one.
@@ -35,7 +38,7 @@ opening = opened 9
 abbrev pub single_byte : List ℕ → Option ℕ
 single_byte (b ∷ []) = Some b
 single_byte (slash ∷ (x ∷ (high ∷ (low ∷ [])))) =
-    if slash == 92 && (x == 120 && (is_hexadecimal high && is_hexadecimal low)) then Some (digit_value high * 16 + digit_value low) else None
+    if slash == 92 && is_byte_escape x high low then Some (digit_value high * 16 + digit_value low) else None
 single_byte _ = None
 
 -- a byte that may part cells or elements: neither a newline nor `#` nor a backslash
@@ -43,12 +46,18 @@ abbrev pub separator_of : List ℕ → Option ℕ
 separator_of value =
     option_and_then (λ b. if b == 10 || (b == 35 || b == 92) then None else Some b) (single_byte value)
 
+-- a log's fault where names make no layout
+abbrev pub fault_of : BadLayout → ZeekFault
+fault_of layouts.TooManyColumns = TooManyColumns
+fault_of (layouts.EmptyName n) = EmptyName
+fault_of (layouts.SameName n) = SameName
+fault_of layouts.EmptyPath = NoHead
+fault_of layouts.NoColumns = NoHead
+
 -- what is wrong with the n-th name, which follows these
 abbrev pub name_fault : ℕ → List (List ℕ) → List ℕ → Option At
 name_fault n before name =
-    if nat_lt 256 n then Some (record { column = n; what = TooManyColumns })
-    else (if is_empty name then Some (record { column = n; what = EmptyName })
-    else (if list_any (λ other. bytes_eq other name) before then Some (record { column = n; what = SameName }) else None))
+    option_map (λ bad. record { column = n; what = fault_of bad }) (bad_name n name (list_any (λ other. bytes_eq other name) before))
 
 -- what is wrong with the first bad one of these names, the first of which is the n-th
 abbrev pub names_fault : ℕ → List (List ℕ) → List (List ℕ) → Option At
@@ -62,24 +71,6 @@ unless_at (Some at) x = Err at
 
 abbrev pub names_read : List (List ℕ) → Result (List (List ℕ)) At
 names_read names = unless_at (names_fault 1 [] names) names
-
-abbrev pub other_elem : List ℕ → Option Elem
-other_elem name =
-    if bytes_eq name (codes "enum") then Some elem.Name
-    else (if bytes_eq name (codes "addr") then Some elem.Addr
-    else (if bytes_eq name (codes "subnet") then Some elem.Subnet
-    else (if bytes_eq name (codes "port") then Some elem.Port else None)))
-
--- the kind of a single value by its type's name
-abbrev pub elem_named : List ℕ → Option Elem
-elem_named name =
-    if bytes_eq name (codes "bool") then Some elem.Bool
-    else (if bytes_eq name (codes "count") then Some elem.Count
-    else (if bytes_eq name (codes "int") then Some elem.Int
-    else (if bytes_eq name (codes "time") then Some elem.Time
-    else (if bytes_eq name (codes "interval") then Some elem.Span
-    else (if bytes_eq name (codes "string") then Some elem.Text
-    else other_elem name)))))
 
 -- what stands between a beginning and a closing bracket
 abbrev pub within_brackets : List ℕ → List ℕ → Option (List ℕ)

@@ -8,4 +8,3 @@ pub mod Naming
 pub mod Reader
 pub mod Steps
 pub mod Table
-pub mod Taking

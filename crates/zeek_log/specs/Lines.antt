@@ -1,12 +1,8 @@
 -- The lines of a text.
 use Rattle.std.specs.Prelude.{ℕ, Bool, ◌==◌, if◌then◌else◌, List, [], ◌∷◌, length, nat_lt}
 use Rattle.std.specs.List.{slice_split}
-
--- why no more bytes come: all are there, a read failed, or so many were taken that no more are
-pub data Stop : Type 0 where
-  AllThere : Stop
-  Failed : Stop
-  AtBound : Stop
+use Rattle.source_block.specs.declared.stop.Stop.{Stop}
+use Rattle.source_block.specs.declared.stop.Stop.TheVariants.{AtEnd, Failed, AtBound}
 
 abbrev pub is_newline : ℕ → Bool
 is_newline b = b == 10
@@ -18,7 +14,7 @@ is_too_long line = nat_lt 1048576 (length line)
 -- What stands behind the last newline is a line where all bytes are there. Else more of it may be to come, and it is a
 -- line only where it is already too long.
 abbrev pub last_line : Stop → List ℕ → List (List ℕ)
-last_line AllThere line = line ∷ []
+last_line AtEnd line = line ∷ []
 last_line Failed line = if is_too_long line then line ∷ [] else []
 last_line AtBound line = if is_too_long line then line ∷ [] else []
 

@@ -2,16 +2,18 @@
 use Rattle.std.specs.Prelude.{◌≡◌, ℕ, ◌+◌, ◌<◌, List, [], ◌++◌, Option, None, Some, Result, Ok, Err, length, IsSomeAnd, IsTrue, ⊤, ◌⊎◌}
 use Rattle.std.specs.Io.KnownBytes.{prepend_known}
 use Rattle.vast_io.specs.Causes.{Rose}
-use Rattle.vast_io.specs.Told.{IsAtEnd}
 use Rattle.vast_value.specs.Headings.{Heading, heading_of, fits_fields}
 use Rattle.zeek_log.specs.declared.step.Step.{Step}
 use Rattle.zeek_log.specs.declared.step.Step.TheVariants as step
 use Rattle.zeek_log.specs.declared.step.ZeekEnd.{ZeekEnd}
 use Rattle.zeek_log.specs.declared.step.ZeekEnd.TheVariants.{Done, Fault, ReadFault, TooLong, Memory}
 use Rattle.zeek_log.specs.Heads.{Told}
-use Rattle.zeek_log.specs.Lines.{Stop, AllThere, Failed, AtBound, lines_of}
+use Rattle.source_block.specs.Holding.{most_bytes}
+use Rattle.source_block.specs.declared.stop.Stop.{Stop}
+use Rattle.source_block.specs.declared.stop.Stop.TheVariants.{AtEnd, Failed, AtBound}
+use Rattle.source_block.specs.Taking.{Stops}
+use Rattle.zeek_log.specs.Lines.{lines_of}
 use Rattle.zeek_log.specs.Steps.{Steps, ended, first, step_of, steps_from, end_of}
-use Rattle.zeek_log.specs.Taking.{most_bytes}
 
 -- Before its end a reader has what the lines so far told, and the number of the next line, from 1. Where the last line,
 -- which no newline ends, gave a step, nothing but the end is to come.
@@ -20,11 +22,13 @@ pub data State : Type 0 where
   Last : Told → State
   Ended : ZeekEnd → State
 
--- the bytes that were taken and belong to no line read yet, and how many were taken in all
+-- the bytes that were taken and belong to no line read yet, how many were taken in all, and how many bytes of memory are
+-- kept for them
 pub record Reading : Type 0 where
   pub state : State
   pub held : List ℕ
   pub taken : ℕ
+  pub kept : ℕ
 
 abbrev pub come_from : State → List ℕ → Stop → Steps
 come_from (Reads told n) bytes stop = steps_from n (end_of stop) told (lines_of stop bytes)
@@ -37,11 +41,11 @@ to_come r bytes stop = come_from r.state (r.held ++ bytes) stop
 
 -- the source has no bytes left, and fewer than the bound were taken of it
 abbrev pub IsMet : Option (List ℕ) → ℕ → Type 0
-IsMet now taken = IsAtEnd now × (taken < most_bytes)
+IsMet now taken = Stops AtEnd now taken
 
 -- what may still follow the bytes that were taken: anything, but nothing behind a last line that no newline ends
 abbrev pub MayFollow : State → List ℕ → Stop → Type 0
-MayFollow (Last told) more stop = (more ≡ []) × (stop ≡ AllThere)
+MayFollow (Last told) more stop = (more ≡ []) × (stop ≡ AtEnd)
 MayFollow _ more stop = ⊤
 
 -- a last line is given only where the end of the source was met
@@ -63,7 +67,7 @@ EndsAnyway old took e = (more : List ℕ) (stop : Stop) → to_come old (took ++
 
 -- all that is still to come is this end, and the end of the source was met
 abbrev pub EndsThere : Reading → List ℕ → Option (List ℕ) → ℕ → ZeekEnd → Type 0
-EndsThere old took now taken e = (to_come old took AllThere ≡ ended e) × IsMet now taken
+EndsThere old took now taken e = (to_come old took AtEnd ≡ ended e) × IsMet now taken
 
 -- All that is still to come is this end: a fault whatever bytes follow, or in a last line that no newline ends, and
 -- another end by the bytes that were taken and the reason that it tells.
@@ -89,7 +93,7 @@ Answer old new before now (Err e) = Closes old new before now e
 abbrev pub Follows : State → Reading → Reading → Option (List ℕ) → Option (List ℕ) → Result Step ZeekEnd → Type 0
 Follows (Ended e) old new before now result = (result ≡ Err e) × (new ≡ old) × (now ≡ before)
 Follows (Last told) old new before now result =
-    (result ≡ Err Done) × (new ≡ record { state = Ended Done; held = old.held; taken = old.taken }) × (now ≡ before)
+    (result ≡ Err Done) × (new ≡ record { state = Ended Done; held = old.held; taken = old.taken; kept = old.kept }) × (now ≡ before)
 Follows (Reads told n) old new before now result = Answer old new before now result
 
 -- a failed read is the end exactly where the count of faults rose in this call

@@ -6,8 +6,10 @@ use Rattle.zeek_log.specs.declared.step.Step.TheVariants as step
 use Rattle.zeek_log.specs.declared.step.ZeekEnd.{ZeekEnd}
 use Rattle.zeek_log.specs.declared.step.ZeekEnd.TheVariants.{Done, Fault, ReadFault, TooLong}
 use Rattle.zeek_log.specs.Heads.{Told, opening}
-use Rattle.zeek_log.specs.Lines.{Stop, AllThere, Failed, AtBound, lines_of}
-use Rattle.zeek_log.specs.Taking.{most_bytes}
+use Rattle.source_block.specs.Holding.{most_bytes}
+use Rattle.source_block.specs.declared.stop.Stop.{Stop}
+use Rattle.source_block.specs.declared.stop.Stop.TheVariants.{AtEnd, Failed, AtBound}
+use Rattle.zeek_log.specs.Lines.{lines_of}
 use Rattle.zeek_log.specs.Table.{LogStep, Head, Line, Outcome, Goes, Gives, Breaks, line_outcome}
 
 pub record Steps : Type 0 where
@@ -36,7 +38,7 @@ steps_from n end told [] = ended end
 steps_from n end told (line ∷ lines) = follow n (line_outcome told line) (λ next. steps_from (n + 1) end next lines)
 
 abbrev pub end_of : Stop → ZeekEnd
-end_of AllThere = Done
+end_of AtEnd = Done
 end_of Failed = ReadFault
 end_of AtBound = TooLong
 
@@ -47,7 +49,7 @@ steps_of bytes stop = steps_from 1 (end_of stop) opening (lines_of stop bytes)
 abbrev pub taken_steps : List ℕ → List ℕ → Bool → Steps
 taken_steps bytes taken failed =
     if failed then steps_of taken Failed
-    else (if nat_le most_bytes (length taken) then steps_of taken AtBound else steps_of bytes AllThere)
+    else (if nat_le most_bytes (length taken) then steps_of taken AtBound else steps_of bytes AtEnd)
 
 -- The steps of a source that had these bytes and has so many left: after a failed read or the bound those of the bytes
 -- that were taken.

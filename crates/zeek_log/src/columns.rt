@@ -28,9 +28,7 @@ pub fn read_columns(
     if !has_pieces(separator, types, names.len()) {
         return Err(bad_line(ZeekFault::FieldsTypes));
     }
-    let Ok(mut columns) = Columns::with_capacity(alloc, names.len()) else {
-        return Err(LineEnd::Memory);
-    };
+    let mut columns = Columns::with_capacity(alloc, names.len())?;
     let mut rest = Some(types);
     for (at, name) in names.iter().enumerate() {
         let Some(piece) = rest else {
@@ -54,17 +52,9 @@ fn push_column(
     requires { length name.now ≤ 2 ^ 24 }
     ensures { PushesColumn (kind_read number type_name.now) columns.old columns.new name.now result }
 {
-    let kind = match kind_read(number, type_name) {
-        Ok(kind) => kind,
-        Err(at) => return Err(LineEnd::Bad(at)),
-    };
-    let Ok(name) = name.duplicate(alloc) else {
-        return Err(LineEnd::Memory);
-    };
-    match columns.push(Column { name, kind }) {
-        Ok(()) => Ok(()),
-        Err(_) => Err(LineEnd::Memory),
-    }
+    let kind = kind_read(number, type_name)?;
+    let name = name.duplicate(alloc)?;
+    Ok(columns.push(Column { name, kind })?)
 }
 
 /// The layout of a path and columns with which nothing is wrong.
@@ -75,9 +65,7 @@ pub fn layout_of(alloc: Global, path: &[u8], columns: Columns) -> Result<Layout,
     ensures path { IfOk result (λ layout. layout.path ≡ path.now) }
     ensures memory { IfErr result (λ e. e ≡ LineEnd.Memory) }
 {
-    let Ok(path) = Bytes::copy(alloc, path) else {
-        return Err(LineEnd::Memory);
-    };
+    let path = Bytes::copy(alloc, path)?;
     match Layout::new(path, columns) {
         Ok(layout) => Ok(layout),
         Err(_) => unreachable!(),

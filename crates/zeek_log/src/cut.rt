@@ -46,7 +46,7 @@ pub fn split_piece(separator: u8, text: &[u8]) -> (&[u8], Option<&[u8]>)
 }
 
 /// What stands before the first separator, and what stands behind it.
-#[tactic(auto, using(crate::proofs::ByteLemmas::drop_more))]
+#[tactic(auto, using(source_block::proofs::BufferLemmas::drop_more))]
 pub fn split_head(separator: u8, line: &[u8]) -> (&[u8], &[u8])
     ensures name { result.0.now ≡ before_first (λ b. b == separator) line.now }
     ensures value { result.1.now ≡ after_first (λ b. b == separator) line.now }

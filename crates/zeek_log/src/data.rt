@@ -26,10 +26,8 @@ pub fn data_line(alloc: Global, known: &Known, line: &[u8]) -> Result<Option<Ste
     }
     match &known.layout {
         Some(layout) => {
-            match read_row(alloc, &known.marks, known.separator, layout.columns(), line) {
-                Ok(row) => Ok(Some(Step::Line(row))),
-                Err(end) => Err(end),
-            }
+            let row = read_row(alloc, &known.marks, known.separator, layout.columns(), line)?;
+            Ok(Some(Step::Line(row)))
         }
         None => Err(bad_line(headless(known))),
     }
@@ -58,9 +56,7 @@ fn read_row(
     ensures value { Answers (λ row. row) result (row_read marks.now (map field_of columns.now) (pieces_of separator line.now)) }
     ensures fits { IfOk result (λ row. IsTrue (fits_columns columns.now row)) }
 {
-    let Ok(mut row) = Row::with_capacity(alloc, columns.len()) else {
-        return Err(LineEnd::Memory);
-    };
+    let mut row = Row::with_capacity(alloc, columns.len())?;
     let plain = !has_backslash(line);
     let mut rest = Some(line);
     for (at, column) in columns.iter().enumerate() {

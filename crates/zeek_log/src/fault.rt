@@ -1,6 +1,8 @@
 //! What can be wrong with a log.
 ghost use Rattle.std.specs.Prelude.{◌≡◌};
+ghost use Rattle.zeek_log.specs.declared.fault.LineEnd.TheVariants.{Bad, Memory};
 
+use std::alloc::AllocError;
 use thiserror::Error;
 
 /// What is wrong with a log at some place.
@@ -51,4 +53,20 @@ pub fn bad_line(what: ZeekFault) -> LineEnd
     ensures { result ≡ LineEnd.Bad (record { column = 0; what = what }) }
 {
     LineEnd::Bad(At { column: 0, what })
+}
+
+impl From<AllocError> for LineEnd {
+    ghost from_gives = { λ _ e. e ≡ Memory };
+
+    fn from(_e: AllocError) -> LineEnd {
+        LineEnd::Memory
+    }
+}
+
+impl From<At> for LineEnd {
+    ghost from_gives = { λ at e. e ≡ Bad at };
+
+    fn from(at: At) -> LineEnd {
+        LineEnd::Bad(at)
+    }
 }

@@ -2,7 +2,7 @@
 ghost use Rattle.std.specs.Prelude.{◌≡◌, ◌≤◌, ◌+◌, ◌^◌, length};
 ghost use Rattle.std.specs.List.{list_any};
 ghost use Rattle.std.specs.Str.{bytes_eq};
-ghost use Rattle.zeek_log.specs.Heads.{name_fault, names_read};
+ghost use Rattle.zeek_log.specs.Heads.{name_fault, fault_of, names_read};
 ghost use Rattle.zeek_log.specs.Lines.{pieces_of};
 ghost use Rattle.zeek_log.specs.Answers.{Answers, PushesName};
 
@@ -10,7 +10,7 @@ use crate::cut::split_piece;
 use crate::fault::{At, LineEnd, ZeekFault};
 use crate::names::Names;
 use std::alloc::Global;
-use vast_value::{Bytes, Seq};
+use vast_value::{BadLayout, Bytes, Seq};
 
 /// The names in a text, if nothing is wrong with them.
 pub fn read_names(alloc: Global, separator: u8, text: &[u8]) -> Result<Names, LineEnd>
@@ -36,39 +36,34 @@ fn push_name(alloc: Global, names: &mut Seq<Bytes>, name: &[u8]) -> Result<(), L
     if let Some(at) = name_fault(names.as_slice(), name) {
         return Err(LineEnd::Bad(at));
     }
-    let Ok(name) = Bytes::copy(alloc, name) else {
-        return Err(LineEnd::Memory);
-    };
-    match names.push(name) {
-        Ok(()) => Ok(()),
-        Err(_) => Err(LineEnd::Memory),
-    }
+    let name = Bytes::copy(alloc, name)?;
+    Ok(names.push(name)?)
 }
 
+/// What is wrong with a name that follows these.
 fn name_fault(before: &[Bytes], name: &[u8]) -> Option<At>
     requires { length before.now ≤ 2 ^ 24 }
     ensures { result ≡ name_fault (length before.now + 1) before.now name.now }
 {
-    let column = before.len() as u32 + 1;
-    if column > 256 {
-        return Some(At {
-            column,
-            what: ZeekFault::TooManyColumns,
-        });
+    match vast_value::name_fault(before.len(), name, is_among(before, name)) {
+        Some(bad) => Some(At {
+            column: before.len() as u32 + 1,
+            what: fault_of(bad),
+        }),
+        None => None,
     }
-    if name.is_empty() {
-        return Some(At {
-            column,
-            what: ZeekFault::EmptyName,
-        });
+}
+
+/// What a log's fault is where names make no layout.
+fn fault_of(bad: BadLayout) -> ZeekFault
+    ensures { result ≡ fault_of bad }
+{
+    match bad {
+        BadLayout::TooManyColumns => ZeekFault::TooManyColumns,
+        BadLayout::EmptyName { .. } => ZeekFault::EmptyName,
+        BadLayout::SameName { .. } => ZeekFault::SameName,
+        BadLayout::EmptyPath | BadLayout::NoColumns => ZeekFault::NoHead,
     }
-    if is_among(before, name) {
-        return Some(At {
-            column,
-            what: ZeekFault::SameName,
-        });
-    }
-    None
 }
 
 fn is_among(names: &[Bytes], name: &[u8]) -> bool

@@ -39,13 +39,8 @@ fn separator_line(alloc: Global, known: &mut Known, value: &[u8]) -> Result<Opti
     let Some(byte) = separator_of(value) else {
         return Err(bad_line(ZeekFault::BadSeparator));
     };
-    match opened(alloc, byte) {
-        Ok(start) => {
-            *known = start;
-            Ok(None)
-        }
-        Err(_) => Err(LineEnd::Memory),
-    }
+    *known = opened(alloc, byte)?;
+    Ok(None)
 }
 
 fn named_head(
@@ -95,10 +90,7 @@ fn empty_line(alloc: Global, known: &mut Known, value: &[u8]) -> Result<Option<S
     ensures does { Does (empty_told (told_of known.old) value.now) (told_of known.new) result }
     ensures fits { LineFits (told_of known.old).heading (told_of known.new).heading result }
 {
-    let Ok(text) = Bytes::copy(alloc, value) else {
-        return Err(LineEnd::Memory);
-    };
-    known.marks.empty = text;
+    known.marks.empty = Bytes::copy(alloc, value)?;
     Ok(None)
 }
 
@@ -107,10 +99,7 @@ fn unset_line(alloc: Global, known: &mut Known, value: &[u8]) -> Result<Option<S
     ensures does { Does (unset_told (told_of known.old) value.now) (told_of known.new) result }
     ensures fits { LineFits (told_of known.old).heading (told_of known.new).heading result }
 {
-    let Ok(text) = Bytes::copy(alloc, value) else {
-        return Err(LineEnd::Memory);
-    };
-    known.marks.unset = text;
+    known.marks.unset = Bytes::copy(alloc, value)?;
     Ok(None)
 }
 
@@ -119,10 +108,7 @@ fn path_line(alloc: Global, known: &mut Known, value: &[u8]) -> Result<Option<St
     ensures does { Does (path_told (told_of known.old) value.now) (told_of known.new) result }
     ensures fits { LineFits (told_of known.old).heading (told_of known.new).heading result }
 {
-    let Ok(text) = Bytes::copy(alloc, value) else {
-        return Err(LineEnd::Memory);
-    };
-    known.path = text;
+    known.path = Bytes::copy(alloc, value)?;
     Ok(None)
 }
 
@@ -131,14 +117,9 @@ fn fields_line(alloc: Global, known: &mut Known, value: &[u8]) -> Result<Option<
     ensures does { Does (names_told (told_of known.old) (names_read (pieces_of known.old.separator value.now))) (told_of known.new) result }
     ensures fits { LineFits (told_of known.old).heading (told_of known.new).heading result }
 {
-    match read_names(alloc, known.separator, value) {
-        Ok(names) => {
-            known.names = names;
-            known.layout = None;
-            Ok(None)
-        }
-        Err(end) => Err(end),
-    }
+    known.names = read_names(alloc, known.separator, value)?;
+    known.layout = None;
+    Ok(None)
 }
 
 fn types_line(alloc: Global, known: &mut Known, value: &[u8]) -> Result<Option<Step>, LineEnd>
@@ -149,10 +130,8 @@ fn types_line(alloc: Global, known: &mut Known, value: &[u8]) -> Result<Option<S
     if known.path.as_slice().is_empty() {
         return Err(bad_line(ZeekFault::NoHead));
     }
-    match read_layout(alloc, known, value) {
-        Ok(layout) => give_head(alloc, known, layout),
-        Err(end) => Err(end),
-    }
+    let layout = read_layout(alloc, known, value)?;
+    give_head(alloc, known, layout)
 }
 
 /// The layout of the path and the names with these types.
@@ -162,10 +141,8 @@ fn read_layout(alloc: Global, known: &Known, types: &[u8]) -> Result<Layout, Lin
     ensures fields { Answers (λ layout. map field_of layout.columns) result (fields_read known.now.names.items (pieces_of known.now.separator types.now)) }
     ensures path { IfOk result (λ layout. layout.path ≡ known.now.path) }
 {
-    match read_columns(alloc, known.separator, &known.names, types) {
-        Ok(columns) => layout_of(alloc, known.path.as_slice(), columns),
-        Err(end) => Err(end),
-    }
+    let columns = read_columns(alloc, known.separator, &known.names, types)?;
+    layout_of(alloc, known.path.as_slice(), columns)
 }
 
 /// Keeps a layout, and gives it.
@@ -173,9 +150,6 @@ fn give_head(alloc: Global, known: &mut Known, layout: Layout) -> Result<Option<
     ensures does { Does (head_told (told_of known.old) (heading_of layout)) (told_of known.new) result }
     ensures fits { LineFits (told_of known.old).heading (told_of known.new).heading result }
 {
-    let Ok(copy) = layout.duplicate(alloc) else {
-        return Err(LineEnd::Memory);
-    };
-    known.layout = Some(copy);
+    known.layout = Some(layout.duplicate(alloc)?);
     Ok(Some(Step::Head(layout)))
 }

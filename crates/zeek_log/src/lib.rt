@@ -4,15 +4,15 @@
 //! of it by the bytes that its source still gives.
 #![tactic(auto)]
 
-mod block;
 mod columns;
 mod cut;
 mod data;
 mod fault;
 mod fields;
+mod finding;
 mod head;
-mod held;
 mod known;
+mod laws;
 mod line;
 mod names;
 mod near;
@@ -24,5 +24,6 @@ mod tests;
 mod types;
 
 pub use fault::ZeekFault;
+pub use laws::{cells_are_a_line, lines_are_a_text};
 pub use reader::ZeekReader;
 pub use step::{Step, ZeekEnd};

@@ -1,16 +1,19 @@
 //! The reader of a log.
-ghost use Rattle.std.specs.Prelude.{◌≡◌, ◌<◌, ◌≤◌, ℕ, List, Option, [], true, None, Some, Ok, is_some, IfOk, OnOk};
+ghost use Rattle.std.specs.Prelude.{◌≡◌, ◌<◌, ◌≤◌, ℕ, List, Option, [], true, None, Some, Ok, length, is_some, IfOk, OnOk};
 ghost use Rattle.memchr.specs.Find.{IsFirstByte, is_byte};
+ghost use Rattle.source_block.specs.Taking.{Stops, Counts};
+ghost use Rattle.zeek_log.specs.Finding.{most_kept};
 ghost use Rattle.zeek_log.specs.Going.{LineAnswer, LineCounts, answer_of, is_reading, lines_left};
 ghost use Rattle.zeek_log.specs.Heads.{opening};
 ghost use Rattle.zeek_log.specs.Reader.{Answer, Follows, CountsBy, CountsOf, IsMet, Reads, StepFits, heading_told};
 
-use crate::block::{Block, Found};
 use crate::fault::{LineEnd, ZeekFault};
+use crate::finding::{Found, find_line};
 use crate::known::Known;
 use crate::line::take_line;
 use crate::opening::opened;
 use crate::step::{Step, ZeekEnd};
+use source_block::{Block, Stop, Took};
 use std::alloc::{AllocError, Global};
 use std::marker::Model;
 use vast_io::Source;
@@ -28,8 +31,8 @@ pub enum Phase {
 
 /// Reads a log from any source, line by line.
 ///
-/// It takes at most 2^36 bytes, and keeps at most one line and a block of them. Contracts see what the lines so far told
-/// with the number of the next line, the bytes that it keeps, and how many it took.
+/// It takes at most 2^36 bytes, and keeps memory for at most one line and a block of them. Contracts see what the lines so
+/// far told with the number of the next line, the bytes that it holds, how many it took, and for how many it keeps memory.
 #[derive(Drop)]
 pub struct ZeekReader {
     phase: Phase,
@@ -43,19 +46,20 @@ impl Model for ZeekReader {
     ghost use Rattle.zeek_log.specs.Answers.{told_of};
     ghost use Rattle.zeek_log.specs.Going.{state_of};
     ghost use Rattle.zeek_log.specs.Reader.{Reading};
-    ghost use Rattle.zeek_log.specs.Taking.{most_bytes};
+    ghost use Rattle.source_block.specs.Holding.{most_bytes};
+    ghost use Rattle.zeek_log.specs.Finding.{most_kept};
 
     ghost Value = { Reading };
 
-    ghost view = { λ r. record { state = state_of r.phase (told_of r.known) r.line; held = r.block.bytes; taken = r.block.taken } };
+    ghost view = { λ r. record { state = state_of r.phase (told_of r.known) r.line; held = r.block.bytes; taken = r.block.taken; kept = r.block.kept } };
 
-    ghost invariant = { λ r. (r.line + length r.block.bytes ≤ r.block.taken + 1) × (r.block.taken ≤ most_bytes) };
+    ghost invariant = { λ r. (r.line + length r.block.bytes ≤ r.block.taken + 1) × (r.block.taken ≤ most_bytes) × (r.block.kept ≤ most_kept) };
 }
 
 impl ZeekReader {
     /// A reader that has read nothing.
     pub fn new(alloc: Global) -> Result<Self, AllocError>
-        ensures { IfOk result (λ reader. reader ≡ record { state = Reads opening 1; held = []; taken = 0 }) }
+        ensures { IfOk result (λ reader. reader ≡ record { state = Reads opening 1; held = []; taken = 0; kept = 65536 }) }
     {
         let known = opened(alloc, b'\t')?;
         let block = Block::new(alloc)?;
@@ -78,6 +82,7 @@ impl ZeekReader {
         ensures fits { IfOk result (λ step. StepFits (heading_told self.old.state) (heading_told self.new.state) step) }
         ensures tells { is_some (S.left source.new) ≡ is_some (S.left source.old) }
         ensures less { OnOk result (lines_left self.new.state < lines_left self.old.state) }
+        ensures kept { self.new.kept ≤ most_kept }
     {
         match self.phase {
             Phase::Ended(end) => Err(end),
@@ -96,6 +101,7 @@ impl ZeekReader {
         ensures counts { CountsBy result (S.faults source.old) (S.faults source.new) }
         ensures fits { IfOk result (λ step. StepFits (heading_told self.old.state) (heading_told self.new.state) step) }
         ensures less { OnOk result (lines_left self.new.state < lines_left self.old.state) }
+        ensures kept { self.new.kept ≤ most_kept }
     {
         loop {
             match self.take_next(alloc, source) {
@@ -119,18 +125,34 @@ impl ZeekReader {
         ensures next { LineAnswer self.old self.new (S.left source.old) (S.left source.new) result }
         ensures counts { LineCounts result (S.faults source.old) (S.faults source.new) }
         ensures less { OnOk result (lines_left self.new.state < lines_left self.old.state) }
+        ensures kept { self.new.kept ≤ most_kept }
     {
-        match self.block.find_line(source) {
+        match find_line(&mut self.block, source)? {
             Found::Line(count) => self.take_ended(alloc, count),
             Found::Long => Err(ZeekEnd::Fault {
                 line: self.line,
                 column: 0,
                 what: ZeekFault::LineTooLong,
             }),
-            Found::AtEnd => self.take_last(alloc),
-            Found::Failed => Err(ZeekEnd::ReadFault),
-            Found::AtBound => Err(ZeekEnd::TooLong),
-            Found::Memory => Err(ZeekEnd::Memory),
+            Found::Stopped(stop) => self.take_rest(alloc, stop),
+        }
+    }
+
+    /// What is held is no line, and no more bytes come.
+    fn take_rest(&mut self, alloc: Global, stop: Stop) -> Result<Option<Step>, ZeekEnd>
+        requires reads { is_reading self.old.state ≡ true }
+        requires found { IsFirstByte (is_byte 10) self.old.held None }
+        requires short { length self.old.held ≤ 1048576 }
+        ensures next { (now : Option (List ℕ)) → Stops stop now self.old.taken → LineAnswer self.old self.new now now result }
+        ensures counts { (before now : ℕ) → Counts (Ok (Took.Stopped stop)) before now → LineCounts result before now }
+        ensures some { result ≡ Ok None → ⊥ }
+        ensures less { OnOk result (lines_left self.new.state < lines_left self.old.state) }
+        ensures kept { self.old.kept ≤ most_kept → self.new.kept ≤ most_kept }
+    {
+        match stop {
+            Stop::AtEnd => self.take_last(alloc),
+            Stop::Failed => Err(ZeekEnd::ReadFault),
+            Stop::AtBound => Err(ZeekEnd::TooLong),
         }
     }
 
@@ -141,6 +163,7 @@ impl ZeekReader {
         ensures next { (now : Option (List ℕ)) → LineAnswer self.old self.new now now result }
         ensures counts { (n : ℕ) → LineCounts result n n }
         ensures less { OnOk result (lines_left self.new.state < lines_left self.old.state) }
+        ensures kept { self.new.kept ≤ most_kept }
     {
         let (line, _) = self.block.as_slice().split_at(count);
         let outcome = take_line(alloc, &mut self.known, line);
@@ -158,6 +181,7 @@ impl ZeekReader {
         ensures counts { (n : ℕ) → LineCounts result n n }
         ensures some { result ≡ Ok None → ⊥ }
         ensures less { OnOk result (lines_left self.new.state < lines_left self.old.state) }
+        ensures kept { self.new.kept ≤ most_kept }
     {
         let outcome = take_line(alloc, &mut self.known, self.block.as_slice());
         match answer_of(self.line, outcome) {

@@ -1,5 +1,9 @@
 //! What a reader of logs answers.
+ghost use Rattle.std.specs.Prelude.{◌≡◌};
+ghost use Rattle.zeek_log.specs.declared.step.ZeekEnd.TheVariants.{Memory};
+
 use crate::fault::ZeekFault;
+use std::alloc::AllocError;
 use vast_value::{Layout, Row};
 
 /// A step of a log.
@@ -28,4 +32,12 @@ pub enum ZeekEnd {
     TooLong,
     /// No memory was left.
     Memory,
+}
+
+impl From<AllocError> for ZeekEnd {
+    ghost from_gives = { λ _ e. e ≡ Memory };
+
+    fn from(_e: AllocError) -> ZeekEnd {
+        ZeekEnd::Memory
+    }
 }

@@ -69,74 +69,54 @@ fn a_log_in_pieces_of_any_size_gives_the_same(rt: HostRuntime) -> Result<(), Fai
     Ok(())
 }
 
+/// Puts the same bytes behind a text, so many times.
+fn append_times(text: &mut Bytes, piece: &[u8], times: u32) -> Result<(), AllocError> {
+    for _ in 0..times {
+        text.append(piece)?;
+    }
+    Ok(())
+}
+
+/// A log of so many columns, whose names are `b`, `ab`, `aab` and so on, and a row.
+fn wide_log(alloc: Global, columns: u32) -> Result<Bytes, AllocError> {
+    let mut text = Bytes::copy(alloc, b"#path\td\n#fields")?;
+    for number in 0..columns {
+        text.push(b'\t')?;
+        append_times(&mut text, b"a", number)?;
+        text.push(b'b')?;
+    }
+    text.append(b"\n#types")?;
+    append_times(&mut text, b"\tcount", columns)?;
+    text.append(b"\n1")?;
+    append_times(&mut text, b"\t1", columns.saturating_sub(1))?;
+    Ok(text)
+}
+
 #[test]
-fn the_first_fault_of_a_log_is_its_end(rt: HostRuntime) -> Result<(), Fail> {
-    for (text, end) in [
-        (
-            b"#path\td\n#types\tcount".as_slice(),
-            fault(2, 0, ZeekFault::FieldsTypes),
-        ),
-        (b"#fields\ta\t\tb\n", fault(1, 2, ZeekFault::EmptyName)),
-        (b"#fields\ta\tb\ta", fault(1, 3, ZeekFault::SameName)),
-        (
-            b"#path\td\n#fields\ta\n#types\tdouble\n",
-            fault(3, 1, ZeekFault::Floating),
-        ),
-        (
-            b"#path\td\n#fields\ta\tb\n#types\tcount\tset[double]\n",
-            fault(3, 2, ZeekFault::Floating),
-        ),
-        (
-            b"#path\td\n#fields\ta\n#types\tset[set[int]]\n",
-            fault(3, 1, ZeekFault::UnknownKind),
-        ),
-        (
-            b"#path\td\n#fields\ta\tb\n#types\tcount\tcount\n1\t2\n1",
-            fault(5, 0, ZeekFault::CellCount),
-        ),
-        (
-            b"#path\td\n#fields\ta\tb\n#types\tcount\tcount\n1\tx\n",
-            fault(4, 2, ZeekFault::BadCell),
-        ),
-        (
-            b"#path\td\n#fields\ta\tb\n#types\tcount\tcount\nx\t1\t1\n",
-            fault(4, 0, ZeekFault::CellCount),
-        ),
-        (b"\n1\n", fault(2, 0, ZeekFault::NoHead)),
-        (
-            b"#path\td\n#fields\ta\n1\n",
-            fault(3, 0, ZeekFault::FieldsTypes),
-        ),
-        (
-            b"#path\td\n#fields\ta\n#types\tcount\n#path\n1\n",
-            fault(5, 0, ZeekFault::NoHead),
-        ),
-        (b"#separator \n", fault(1, 0, ZeekFault::BadSeparator)),
-        (b"#separator \\x0a\n", fault(1, 0, ZeekFault::BadSeparator)),
+fn a_row_has_at_most_256_cells(rt: HostRuntime) -> Result<(), Fail> {
+    for (columns, steps, end) in [
+        (256u32, (1u32, 1u32, 256u64), ZeekEnd::Done),
+        (257, (0, 0, 0), fault(2, 257, ZeekFault::TooManyColumns)),
     ] {
-        let told = read_all(rt.alloc(), text, 5, Vec::new(rt.alloc()))?;
+        let text = wide_log(rt.alloc(), columns)?;
+        let told = read_all(rt.alloc(), text.as_slice(), 1000, Vec::new(rt.alloc()))?;
+        assert_eq!(rt; (told.heads, told.rows, told.cells), steps);
         assert_eq!(rt; told.end, end);
     }
     Ok(())
 }
 
 #[test]
-fn a_long_line_and_a_column_too_many(rt: HostRuntime) -> Result<(), Fail> {
-    let mut fields = Bytes::copy(rt.alloc(), b"#fields")?;
-    for number in 0..257u32 {
-        fields.push(b'\t')?;
-        for _ in 0..number {
-            fields.push(b'a')?;
-        }
-        fields.push(b'b')?;
+fn a_line_has_at_most_1048576_bytes(rt: HostRuntime) -> Result<(), Fail> {
+    for (length, rows, end) in [
+        (1_048_576usize, 1u32, ZeekEnd::Done),
+        (1_048_577, 0, fault(4, 0, ZeekFault::LineTooLong)),
+    ] {
+        let mut text = Bytes::copy(rt.alloc(), b"#path\td\n#fields\tn\n#types\tstring\n")?;
+        text.append(&vec![in rt.alloc(); b'x'; length]?)?;
+        let told = read_all(rt.alloc(), text.as_slice(), 100_000, Vec::new(rt.alloc()))?;
+        assert_eq!(rt; (told.heads, told.rows, told.end), (1, rows, end));
     }
-    let told = read_all(rt.alloc(), fields.as_slice(), 1000, Vec::new(rt.alloc()))?;
-    assert_eq!(rt; told.end, fault(1, 257, ZeekFault::TooManyColumns));
-    let long = vec![in rt.alloc(); b'#'; 1_048_577]?;
-    let told = read_all(rt.alloc(), long.as_slice(), 100_000, Vec::new(rt.alloc()))?;
-    assert_eq!(rt; told.end, fault(1, 0, ZeekFault::LineTooLong));
-    let told = read_all(rt.alloc(), &long[1..], 100_000, Vec::new(rt.alloc()))?;
-    assert_eq!(rt; told.end, ZeekEnd::Done);
     Ok(())
 }
 

@@ -1,11 +1,11 @@
 //! The names of types.
-ghost use Rattle.std.specs.Prelude.{◌≡◌, ◌<◌, [], ◌∷◌, if◌then◌else◌, IsTrue};
+ghost use Rattle.std.specs.Prelude.{◌≡◌, if◌then◌else◌};
 ghost use Rattle.std.specs.Option.{option_copied, option_and_then};
-ghost use Rattle.value_text.specs.Addresses.{is_hexadecimal, digit_value};
-ghost use Rattle.value_text.specs.Numbers.{is_digit};
-ghost use Rattle.zeek_log.specs.Heads.{elem_named, other_elem, kind_named, kind_read, is_floating, within_brackets, single_byte, separator_of};
+ghost use Rattle.vast_value.specs.Kinds.{elem_named};
+ghost use Rattle.zeek_log.specs.Heads.{kind_named, kind_read, is_floating, within_brackets, single_byte, separator_of};
 
 use crate::fault::{At, ZeekFault};
+use value_text::escaped_byte;
 use vast_value::{Elem, Kind};
 
 /// The kind of the type with this number, from 1, or what is wrong with it.
@@ -46,7 +46,7 @@ fn is_floating(name: &[u8]) -> bool
 fn kind_named(name: &[u8]) -> Option<Kind>
     ensures { result ≡ kind_named name.now }
 {
-    if let Some(elem) = elem_named(name) {
+    if let Some(elem) = Elem::named(name) {
         return Some(Kind::One(elem));
     }
     if let Some(elem) = elem_within(b"set[", name) {
@@ -62,7 +62,7 @@ fn elem_within(front: &[u8], name: &[u8]) -> Option<Elem>
     ensures { result ≡ option_and_then elem_named (within_brackets front.now name.now) }
 {
     match within_brackets(front, name) {
-        Some(inner) => elem_named(inner),
+        Some(inner) => Elem::named(inner),
         None => None,
     }
 }
@@ -79,48 +79,6 @@ fn within_brackets<'a>(front: &[u8], name: &'a [u8]) -> Option<&'a [u8]>
     let (_, behind) = name.split_at(front.len());
     let (inner, _) = behind.split_at(behind.len().saturating_sub(1));
     Some(inner)
-}
-
-fn elem_named(name: &[u8]) -> Option<Elem>
-    ensures { result ≡ elem_named name.now }
-{
-    if name == b"bool".as_slice() {
-        return Some(Elem::Bool);
-    }
-    if name == b"count".as_slice() {
-        return Some(Elem::Count);
-    }
-    if name == b"int".as_slice() {
-        return Some(Elem::Int);
-    }
-    if name == b"time".as_slice() {
-        return Some(Elem::Time);
-    }
-    if name == b"interval".as_slice() {
-        return Some(Elem::Span);
-    }
-    if name == b"string".as_slice() {
-        return Some(Elem::Text);
-    }
-    other_elem(name)
-}
-
-fn other_elem(name: &[u8]) -> Option<Elem>
-    ensures { result ≡ other_elem name.now }
-{
-    if name == b"enum".as_slice() {
-        return Some(Elem::Name);
-    }
-    if name == b"addr".as_slice() {
-        return Some(Elem::Addr);
-    }
-    if name == b"subnet".as_slice() {
-        return Some(Elem::Subnet);
-    }
-    if name == b"port".as_slice() {
-        return Some(Elem::Port);
-    }
-    None
 }
 
 /// The byte of a separator's value: one byte, as itself or as `\xHH`, that is neither a newline nor `#` nor a backslash.
@@ -141,39 +99,7 @@ fn single_byte(value: &[u8]) -> Option<u8>
 {
     match value {
         [byte] => Some(*byte),
-        [slash, x, high, low] => escaped(*slash, *x, *high, *low),
+        [b'\\', x, high, low] => escaped_byte(*x, *high, *low),
         _ => None,
     }
-}
-
-fn escaped(slash: u8, x: u8, high: u8, low: u8) -> Option<u8>
-    ensures { result ≡ single_byte (slash ∷ (x ∷ (high ∷ (low ∷ [])))) }
-{
-    if slash == b'\\' && (x == b'x' && (is_hexadecimal(high) && is_hexadecimal(low))) {
-        return Some(digit_value(high) * 16 + digit_value(low));
-    }
-    None
-}
-
-fn is_hexadecimal(byte: u8) -> bool
-    ensures { result ≡ is_hexadecimal byte }
-{
-    is_digit(byte) || ((97 <= byte && byte <= 102) || (65 <= byte && byte <= 70))
-}
-
-fn is_digit(byte: u8) -> bool
-    ensures { result ≡ is_digit byte }
-{
-    48 <= byte && byte <= 57
-}
-
-fn digit_value(byte: u8) -> u8
-    requires { IsTrue (is_hexadecimal byte) }
-    ensures value { result ≡ digit_value byte }
-    ensures small { result < 16 }
-{
-    if is_digit(byte) {
-        return byte - 48;
-    }
-    if 97 <= byte { byte - 87 } else { byte - 55 }
 }

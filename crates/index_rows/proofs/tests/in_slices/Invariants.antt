@@ -1,5 +1,5 @@
 use Rattle.std.proofs.Common.{◌≡◌}
 use Rattle.index_rows.proofs.tests.in_slices.Given as goal
 
-abbrev pub invariant-loop-key : goal.invariant-loop-key
-invariant-loop-key l = l.index.width ≡ 4
+abbrev pub invariant-loop-at : goal.invariant-loop-at
+invariant-loop-at l = l.index.width ≡ l.fn.width

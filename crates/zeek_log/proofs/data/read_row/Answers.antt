@@ -27,8 +27,8 @@ loop-at-preserved c =
     let long : length_left (option_copied c.loop-at.rest) ≡ length c.in-Some.text.now + 1 =
     ap (λ (r : Option (Bor (List ℕ))). length_left (option_copied r)) c.in-Some.is in
     let short : length raw < 2 ^ 24 = omega (arith, c.split_piece.ensures.within, long, c.loop-at.invariant.within) in
-    let put = cell_put (cell_read c.args.marks.now column.kind raw) c.loop-at.row c.push_cell.new.row c.in-Ok-push_cell.ensures.value in
-    let small : list_all is_small c.push_cell.new.row ≡ true = c.in-Ok-push_cell.ensures.small short c.loop-at.invariant.small in
+    let put = cell_put (cell_read c.args.marks.now column.kind raw) c.loop-at.row c.push_cell.new.row c.in-Ok.ensures.value in
+    let small : list_all is_small c.push_cell.new.row ≡ true = c.in-Ok.ensures.small short c.loop-at.invariant.small in
     record {
       read = row_step c.args.marks.now (cells_read c.args.marks.now 1 (map field_of columns) (pieces_of s c.args.line.now)) (at + 1) c.loop-at.row c.push_cell.new.row
           (drop at columns) (drop (at + 1) columns) column left more raw put.cell

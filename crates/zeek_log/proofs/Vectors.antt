@@ -1,0 +1,275 @@
+-- What the definitions give at chosen places. In a text `^` stands for a tab and `$` for a newline.
+use Rattle.std.proofs.Common.{◌≡◌, ◌≢◌, ℕ, ◌==◌, Bool, true, false, if◌then◌else◌, List, [], ◌∷◌, ◌++◌, Option, None, Some, Result, Ok, Err, map, length, codes, nat_lt, nat_le, refl, ap, ◌∙◌, arith, sym}
+use Rattle.std.proofs.lemmas.Bool.{lt-ltb, le-leb}
+use Rattle.source_block.specs.Holding.{most_bytes}
+use Rattle.source_block.specs.declared.stop.Stop.TheVariants.{AtEnd, Failed, AtBound}
+use Rattle.vast_value.specs.declared.kind.Elem.TheVariants as elem
+use Rattle.vast_value.specs.declared.kind.Kind.{Kind}
+use Rattle.vast_value.specs.declared.kind.Kind.TheVariants as kind
+use Rattle.vast_value.specs.declared.cell.Cell.TheVariants.{One, Many, Unset}
+use Rattle.vast_value.specs.declared.value.Value.TheVariants.{Count, Text}
+use Rattle.vast_value.specs.Headings.{Heading}
+use Rattle.value_text.specs.declared.Marks.{Marks}
+use Rattle.value_text.specs.Reading.{cell_read, value_read}
+use Rattle.zeek_log.specs.declared.fault.At.{At}
+use Rattle.zeek_log.specs.declared.fault.ZeekFault.{ZeekFault}
+use Rattle.zeek_log.specs.declared.fault.ZeekFault.TheVariants.{NoHead, BadSeparator, FieldsTypes, TooManyColumns, EmptyName, SameName, UnknownKind, Floating, CellCount, BadCell, LineTooLong}
+use Rattle.zeek_log.specs.declared.step.ZeekEnd.TheVariants.{Done, Fault, ReadFault, TooLong}
+use Rattle.zeek_log.specs.Going.{lines_left}
+use Rattle.zeek_log.specs.Heads.{Told, opened, opening, separator_of, name_fault, names_read, kind_read, kinds_read}
+use Rattle.zeek_log.specs.Lines.{is_too_long, lines_of, pieces_of}
+use Rattle.zeek_log.specs.Reader.{Reads, Last, Ended, come_from, heading_told}
+use Rattle.zeek_log.specs.Steps.{Steps, steps_of, steps_of_source, taken_steps}
+use Rattle.zeek_log.specs.Table.{LogStep, Head, Line, Outcome, Goes, Gives, Breaks, line_outcome}
+
+abbrev byte : ℕ → ℕ
+byte b = if b == 94 then 9 else (if b == 36 then 10 else b)
+
+abbrev text : List ℕ → List ℕ
+text codes = map byte codes
+
+abbrev at : ℕ → ZeekFault → At
+at n what = record { column = n; what = what }
+
+-- Lines
+
+-- a newline ends a line, and the last may lack it; where more may be to come, what stands behind the last newline is no line
+lines_there : lines_of AtEnd (text (codes "a$$b")) ≡ codes "a" ∷ ([] ∷ (codes "b" ∷ []))
+lines_there = refl
+
+lines_cut : lines_of Failed (text (codes "a$b")) ≡ codes "a" ∷ []
+lines_cut = refl
+
+lines_bound : lines_of AtBound (text (codes "a$b")) ≡ codes "a" ∷ []
+lines_bound = refl
+
+-- 1,048,576 bytes are a line, one more are not
+line_of_most : (line : List ℕ) → length line ≡ 1048576 → is_too_long line ≡ false
+line_of_most line long = ap (nat_lt 1048576) long
+
+line_too_long : (line : List ℕ) → length line ≡ 1048577 → is_too_long line ≡ true
+line_too_long line long = ap (nat_lt 1048576) long
+
+-- a text of cells, of which the second is empty
+cells : pieces_of 9 (text (codes "a^^b")) ≡ codes "a" ∷ ([] ∷ (codes "b" ∷ []))
+cells = refl
+
+-- Separators
+
+-- one byte, or a backslash, `x` and two digits in either case
+separators : map separator_of (codes "\\x09" ∷ (codes "\\x7C" ∷ (codes "\\x7c" ∷ (codes "," ∷ (codes "\\xfF" ∷ []))))) ≡ Some 9 ∷ (Some 124 ∷ (Some 124 ∷ (Some 44 ∷ (Some 255 ∷ []))))
+separators = refl
+
+-- not a newline, `#` or a backslash, in either form, nor anything else
+no_separators : map separator_of (text (codes "$") ∷ (codes "#" ∷ (codes "\\" ∷ (codes "\\x0a" ∷ (codes "\\x23" ∷ (codes "\\x5C" ∷ [])))))) ≡ None ∷ (None ∷ (None ∷ (None ∷ (None ∷ (None ∷ [])))))
+no_separators = refl
+
+no_form : map separator_of ([] ∷ (codes "\\x9" ∷ (codes "\\x0g" ∷ (codes "\\y09" ∷ (codes "/x09" ∷ (codes ",," ∷ [])))))) ≡ None ∷ (None ∷ (None ∷ (None ∷ (None ∷ (None ∷ [])))))
+no_form = refl
+
+-- Names and types
+
+names : names_read (codes "a" ∷ (codes "b" ∷ [])) ≡ Ok (codes "a" ∷ (codes "b" ∷ []))
+names = refl
+
+name_empty : names_read (codes "a" ∷ ([] ∷ (codes "a" ∷ []))) ≡ Err (at 2 EmptyName)
+name_empty = refl
+
+name_again : names_read (codes "a" ∷ (codes "b" ∷ (codes "a" ∷ []))) ≡ Err (at 3 SameName)
+name_again = refl
+
+-- there may be 256 names; that there is one more is told before all else of it
+name_256 : name_fault 256 [] (codes "a") ≡ None
+name_256 = refl
+
+name_257 : name_fault 257 ([] ∷ []) [] ≡ Some (at 257 TooManyColumns)
+name_257 = refl
+
+-- a name without letters is told before that it is there
+name_twice_empty : name_fault 2 ([] ∷ []) [] ≡ Some (at 2 EmptyName)
+name_twice_empty = refl
+
+-- the name of each type
+types : kinds_read 1 (codes "bool" ∷ (codes "count" ∷ (codes "int" ∷ (codes "time" ∷ (codes "interval" ∷ (codes "string" ∷ (codes "enum" ∷ (codes "addr" ∷ (codes "subnet" ∷ (codes "port" ∷ (codes "set[addr]" ∷ (codes "vector[count]" ∷ [])))))))))))) ≡ Ok (kind.One elem.Bool ∷ (kind.One elem.Count ∷ (kind.One elem.Int ∷ (kind.One elem.Time ∷ (kind.One elem.Span ∷ (kind.One elem.Text ∷ (kind.One elem.Name ∷ (kind.One elem.Addr ∷ (kind.One elem.Subnet ∷ (kind.One elem.Port ∷ (kind.SetOf elem.Addr ∷ (kind.VecOf elem.Count ∷ []))))))))))))
+types = refl
+
+-- types that are none, and those of floating point numbers
+no_types : map (kind_read 3) (codes "float" ∷ (codes "set[set[int]]" ∷ (codes "set[int" ∷ (codes "setint]" ∷ (codes "set[]" ∷ (codes "vector[table[int]]" ∷ [])))))) ≡ Err (at 3 UnknownKind) ∷ (Err (at 3 UnknownKind) ∷ (Err (at 3 UnknownKind) ∷ (Err (at 3 UnknownKind) ∷ (Err (at 3 UnknownKind) ∷ (Err (at 3 UnknownKind) ∷ [])))))
+no_types = refl
+
+floating : map (kind_read 3) (codes "double" ∷ (codes "set[double]" ∷ (codes "vector[double]" ∷ []))) ≡ Err (at 3 Floating) ∷ (Err (at 3 Floating) ∷ (Err (at 3 Floating) ∷ []))
+floating = refl
+
+-- the first bad type is told
+type_of_column : kinds_read 1 (codes "count" ∷ (codes "double" ∷ (codes "float" ∷ []))) ≡ Err (at 2 Floating)
+type_of_column = refl
+
+-- Lines and what they do, behind a head of the path d with one column n of counts
+
+abbrev usual : Marks
+usual = record { set_separator = 44; empty = codes "(empty)"; unset = codes "-" }
+
+abbrev heading : List ℕ → Heading
+heading path = record { path = path; fields = record { name = codes "n"; kind = kind.One elem.Count } ∷ [] }
+
+abbrev told_with : Marks → List ℕ → List ℕ → Option Heading → Told
+told_with marks path name heading = record { separator = 9; marks = marks; path = path; names = name ∷ []; heading = heading }
+
+abbrev told : Told
+told = told_with usual (codes "d") (codes "n") (Some (heading (codes "d")))
+
+-- a line by its text
+abbrev does : Told → List ℕ → Outcome
+does told line = line_outcome told (text line)
+
+before_all : opening ≡ record { separator = 9; marks = usual; path = []; names = []; heading = None }
+before_all = refl
+
+empty_line : does told [] ≡ Goes told
+empty_line = refl
+
+-- `#separator` with a space puts all back; with a tab, or alone, it is a line that is skipped
+separator_line : does told (codes "#separator \\x7c") ≡ Goes (opened 124)
+separator_line = refl
+
+separator_bad : does told (codes "#separator \\x9") ≡ Breaks 0 BadSeparator
+separator_bad = refl
+
+separator_none : does told (codes "#separator ") ≡ Breaks 0 BadSeparator
+separator_none = refl
+
+separator_skipped : map (does told) (codes "#separator" ∷ (codes "#separator^," ∷ (codes "#" ∷ (codes "#open^x" ∷ [])))) ≡ Goes told ∷ (Goes told ∷ (Goes told ∷ (Goes told ∷ [])))
+separator_skipped = refl
+
+set_separator_line : does told (codes "#set_separator^;") ≡ Goes (told_with (record { set_separator = 59; empty = codes "(empty)"; unset = codes "-" }) (codes "d") (codes "n") (Some (heading (codes "d"))))
+set_separator_line = refl
+
+set_separator_bad : does told (codes "#set_separator^#") ≡ Breaks 0 BadSeparator
+set_separator_bad = refl
+
+empty_field_line : does told (codes "#empty_field^e^f") ≡ Goes (told_with (record { set_separator = 44; empty = text (codes "e^f"); unset = codes "-" }) (codes "d") (codes "n") (Some (heading (codes "d"))))
+empty_field_line = refl
+
+unset_field_line : does told (codes "#unset_field^u") ≡ Goes (told_with (record { set_separator = 44; empty = codes "(empty)"; unset = codes "u" }) (codes "d") (codes "n") (Some (heading (codes "d"))))
+unset_field_line = refl
+
+-- a new path ends no layout
+path_line : does told (codes "#path^e") ≡ Goes (told_with usual (codes "e") (codes "n") (Some (heading (codes "d"))))
+path_line = refl
+
+-- new names do
+fields_line : does told (codes "#fields^m") ≡ Goes (told_with usual (codes "d") (codes "m") None)
+fields_line = refl
+
+fields_bad : does told (codes "#fields^m^m") ≡ Breaks 2 SameName
+fields_bad = refl
+
+fields_none : does told (codes "#fields") ≡ Breaks 1 EmptyName
+fields_none = refl
+
+types_line : does (told_with usual (codes "e") (codes "n") None) (codes "#types^count") ≡ Gives (told_with usual (codes "e") (codes "n") (Some (heading (codes "e")))) (Head (heading (codes "e")))
+types_line = refl
+
+-- without a path there is no head, whatever the types; then their number counts, and then each of them
+types_pathless : does (told_with usual [] (codes "n") None) (codes "#types^double^x") ≡ Breaks 0 NoHead
+types_pathless = refl
+
+types_number : does told (codes "#types^double^x") ≡ Breaks 0 FieldsTypes
+types_number = refl
+
+types_floating : does told (codes "#types^double") ≡ Breaks 1 Floating
+types_floating = refl
+
+types_unknown : does told (codes "#types^float") ≡ Breaks 1 UnknownKind
+types_unknown = refl
+
+-- a data line needs a path, names and a layout, in this order
+data_pathless : does (told_with usual [] (codes "n") (Some (heading (codes "d")))) (codes "7") ≡ Breaks 0 NoHead
+data_pathless = refl
+
+data_nameless : does (record { separator = 9; marks = usual; path = codes "d"; names = []; heading = None }) (codes "7") ≡ Breaks 0 NoHead
+data_nameless = refl
+
+data_typeless : does (told_with usual (codes "d") (codes "n") None) (codes "7") ≡ Breaks 0 FieldsTypes
+data_typeless = refl
+
+data_row : does told (codes "7") ≡ Gives told (Line (One (Count 7) ∷ []))
+unfolding cell_read value_read
+data_row = refl
+
+data_unset : does told (codes "-") ≡ Gives told (Line (Unset ∷ []))
+unfolding cell_read value_read
+data_unset = refl
+
+-- the number of cells is told before a bad cell
+data_count : does told (codes "x^1") ≡ Breaks 0 CellCount
+data_count = refl
+
+data_bad : does told (codes "x") ≡ Breaks 1 BadCell
+unfolding cell_read value_read
+data_bad = refl
+
+-- of a line that is too long nothing else is told
+data_long : (line : List ℕ) → length line ≡ 1048576 → line_outcome opening (35 ∷ line) ≡ Breaks 0 LineTooLong
+data_long line long = let over : is_too_long (35 ∷ line) ≡ true = lt-ltb 1048576 (length (35 ∷ line)) (omega (arith, long)) in rw over refl
+
+-- Whole logs
+
+abbrev log : List ℕ
+log = text (codes "#path^d$#fields^n$#types^count$7$8")
+
+abbrev two_rows : List LogStep
+two_rows = Head (heading (codes "d")) ∷ (Line (One (Count 7) ∷ []) ∷ (Line (One (Count 8) ∷ []) ∷ []))
+
+-- the last line needs no newline
+whole_log : steps_of log AtEnd ≡ record { given = two_rows; end = Done }
+unfolding cell_read value_read
+whole_log = refl
+
+-- but where a read failed, or the bound was met, it is no line yet
+cut_log : steps_of log Failed ≡ record { given = Head (heading (codes "d")) ∷ (Line (One (Count 7) ∷ []) ∷ []); end = ReadFault }
+unfolding cell_read value_read
+cut_log = refl
+
+bound_log : steps_of log AtBound ≡ record { given = Head (heading (codes "d")) ∷ (Line (One (Count 7) ∷ []) ∷ []); end = TooLong }
+unfolding cell_read value_read
+bound_log = refl
+
+-- rows behind a second `#fields` have no types, and the fault is in the fifth line
+second_fields : steps_of (text (codes "#path^d$#fields^n$#types^count$#fields^n$7$")) AtEnd ≡ record { given = Head (heading (codes "d")) ∷ []; end = Fault 5 0 FieldsTypes }
+unfolding cell_read value_read
+second_fields = refl
+
+-- a bad cell of the second column, behind a row
+bad_second : (steps_of (text (codes "#path^d$#fields^n^m$#types^count^count$1^2$1^x$")) AtEnd).end ≡ Fault 5 2 BadCell
+unfolding cell_read value_read
+bad_second = refl
+
+-- of a source the bytes count that were taken, where a read failed, and else all
+source_failed : steps_of_source log (text (codes "$8")) true ≡ record { given = Head (heading (codes "d")) ∷ []; end = ReadFault }
+unfolding cell_read value_read
+source_failed = refl
+
+source_read : steps_of_source log [] false ≡ record { given = two_rows; end = Done }
+unfolding cell_read value_read
+source_read = refl
+
+-- with 2^36 bytes taken the bound is met
+source_bound : (bytes taken : List ℕ) → length taken ≡ most_bytes → taken_steps bytes taken false ≡ steps_of taken AtBound
+source_bound bytes taken full = rw (le-leb most_bytes (length taken) (omega (arith, full))) refl
+
+-- what a reader has still to give at first, and at its last line
+at_first : (bytes : List ℕ) → come_from (Reads opening 1) bytes AtEnd ≡ steps_of bytes AtEnd
+at_first bytes = refl
+
+at_last : come_from (Last told) (codes "7") Failed ≡ record { given = []; end = Done }
+at_last = refl
+
+at_end : come_from (Ended TooLong) (codes "7") AtEnd ≡ record { given = []; end = TooLong }
+at_end = refl
+
+headings : map heading_told (Reads told 5 ∷ (Last told ∷ (Ended Done ∷ []))) ≡ Some (heading (codes "d")) ∷ (Some (heading (codes "d")) ∷ (None ∷ []))
+headings = refl
+
+lines_to_come : lines_left (Reads told 5) ≡ 68719476733
+lines_to_come = refl
