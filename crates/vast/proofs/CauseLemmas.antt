@@ -8,7 +8,7 @@ use Rattle.vast_io.specs.Causes.{Rose}
 use Rattle.zeek_log.specs.declared.step.ZeekEnd.{ZeekEnd}
 use Rattle.zeek_log.specs.declared.step.ZeekEnd.TheVariants as end
 use Rattle.zeek_log.specs.Steps.{Steps, steps_of_source}
-use Rattle.zeek_log.specs.Taking.{most_bytes}
+use Rattle.source_block.specs.Holding.{most_bytes}
 use Rattle.vast.specs.declared.status.Status.{Status}
 use Rattle.vast.specs.declared.status.Status.TheVariants as status
 use Rattle.vast.specs.Causes.{TellsText, TellsOf, TellsSome, IsOfReport, ReadsWell, LeavesNothing, SinkStands, IsRefusal, IsRefused, Refuses, Outside, Rest, Outcome, Writes, Stands, StandsBy, SaysUnopened, SaysRefused, SaysEarly, WasOpened, IsOfCommand, IsOfFile, TellsFile, TellsScan, TellsCommand, ReportsFile, bytes_for, IsExpr, IsSound, IsWhole, IsDone, Completes, Does}

@@ -14,11 +14,12 @@ use Rattle.zeek_log.specs.declared.fault.ZeekFault.{ZeekFault}
 use Rattle.zeek_log.specs.declared.step.ZeekEnd.{ZeekEnd}
 use Rattle.zeek_log.specs.declared.step.ZeekEnd.TheVariants as end
 use Rattle.zeek_log.specs.Heads.{Told, opening}
-use Rattle.zeek_log.specs.Lines.{Stop, AllThere, Failed, AtBound}
+use Rattle.source_block.specs.declared.stop.Stop.{Stop}
+use Rattle.source_block.specs.declared.stop.Stop.TheVariants.{AtEnd, Failed, AtBound}
 use Rattle.zeek_log.specs.Reader.{State, Reads, Last, Ended, Reading, to_come, come_from, IsMet, MayFollow, IsMetAtLast, StepsOn, EndsAnyway, EndsThere, EndsAs, Closes, Follows, CountsBy, CountsOf, heading_told, StepFits}
 use Rattle.zeek_log.specs.Steps.{Steps, ended, first, step_of, steps_of, steps_of_source, taken_steps}
 use Rattle.zeek_log.specs.Table.{LogStep}
-use Rattle.zeek_log.specs.Taking.{most_bytes}
+use Rattle.source_block.specs.Holding.{most_bytes}
 use Rattle.vast.specs.declared.status.Status.{Status}
 use Rattle.vast.specs.declared.status.Status.TheVariants as status
 use Rattle.vast.specs.declared.report.WriteEnd.{WriteEnd}
@@ -48,17 +49,17 @@ source_failed bytes took rest split = ap (λ (t : List ℕ). steps_of t Failed) 
 at_bound : (bytes took : List ℕ) (b : Bool) → nat_le most_bytes (length took) ≡ b → b ≡ true → taken_steps bytes took false ≡ steps_of took AtBound
 at_bound bytes took b is at = rw (is ∙ at) refl
 
-pub below_bound : (bytes took : List ℕ) (b : Bool) → nat_le most_bytes (length took) ≡ b → b ≡ false → taken_steps bytes took false ≡ steps_of bytes AllThere
+pub below_bound : (bytes took : List ℕ) (b : Bool) → nat_le most_bytes (length took) ≡ b → b ≡ false → taken_steps bytes took false ≡ steps_of bytes AtEnd
 below_bound bytes took b is off = rw (is ∙ off) refl
 
 source_full : (bytes took rest : List ℕ) → bytes ≡ took ++ rest → nat_le most_bytes (length took) ≡ true → steps_of_source bytes rest false ≡ steps_of took AtBound
 source_full bytes took rest split full =
     ap (λ (t : List ℕ). taken_steps bytes t false) (taken_is bytes took rest split) ∙ at_bound bytes took true full refl
 
-source_there : (bytes took rest : List ℕ) → bytes ≡ took ++ rest → nat_le most_bytes (length took) ≡ false → steps_of_source bytes rest false ≡ steps_of (took ++ rest) AllThere
+source_there : (bytes took rest : List ℕ) → bytes ≡ took ++ rest → nat_le most_bytes (length took) ≡ false → steps_of_source bytes rest false ≡ steps_of (took ++ rest) AtEnd
 source_there bytes took rest split few =
     ap (λ (t : List ℕ). taken_steps bytes t false) (taken_is bytes took rest split) ∙ below_bound bytes took false few refl
-    ∙ ap (λ (t : List ℕ). steps_of t AllThere) split
+    ∙ ap (λ (t : List ℕ). steps_of t AtEnd) split
 
 pub below_most : (n : ℕ) → n < most_bytes → nat_le most_bytes n ≡ false
 below_most n few = grind (arith, nat_tests, few)
@@ -85,7 +86,7 @@ pub record Going (whole behind : Steps → List ℕ) (held : List ℕ) (reader :
   pub met : IsMetAtLast reader.state left_now reader.taken
 
 abbrev start : Reading
-start = record { state = Reads opening 1; held = []; taken = 0 }
+start = record { state = Reads opening 1; held = []; taken = 0; kept = 65536 }
 
 abbrev GoingFrom : (Steps → List ℕ) → Option (List ℕ) → Option (List ℕ) → Reading → Type 0
 GoingFrom whole left before reader = Going whole whole [] reader left left before before
@@ -181,11 +182,11 @@ follow_full (Last told) taken bytes took rest split count met full =
 follow_there : (state : State) (taken : ℕ) (bytes took rest : List ℕ) → bytes ≡ took ++ rest → IsMetAtLast state (Some rest) taken
     → nat_le most_bytes (length took) ≡ false → Follow state took bytes rest
 follow_there (Reads told n) taken bytes took rest split met few =
-    record { more = rest; stop = AllThere; may = tt; is = source_there bytes took rest split few }
+    record { more = rest; stop = AtEnd; may = tt; is = source_there bytes took rest split few }
 follow_there (Ended e) taken bytes took rest split met few =
-    record { more = rest; stop = AllThere; may = tt; is = source_there bytes took rest split few }
+    record { more = rest; stop = AtEnd; may = tt; is = source_there bytes took rest split few }
 follow_there (Last told) taken bytes took rest split met few =
-    record { more = rest; stop = AllThere; may = (met.0, refl); is = source_there bytes took rest split few }
+    record { more = rest; stop = AtEnd; may = (met.0, refl); is = source_there bytes took rest split few }
 
 follow_by : (b : Bool) (state : State) (taken : ℕ) (bytes took rest : List ℕ) → bytes ≡ took ++ rest → taken ≡ length took → IsMetAtLast state (Some rest) taken
     → nat_le most_bytes (length took) ≡ b → Follow state took bytes rest
@@ -285,12 +286,12 @@ module _ (whole behind : Steps → List ℕ) (held : List ℕ) (old : Reading) (
       (source ∙ ap (λ (t : List ℕ). steps_of t stop) (sym (append-nil (so.took ++ took))))
 
   -- the source had no bytes left
-  come_there : (e : ZeekEnd) (took bytes rest : List ℕ) → MayFollow old.state took AllThere → bytes ≡ (so.took ++ took) ++ rest → rest ≡ []
-      → length (so.took ++ took) < most_bytes → to_come old took AllThere ≡ ended e → EndsSo whole behind held so.sent e (steps_of_source bytes rest false)
+  come_there : (e : ZeekEnd) (took bytes rest : List ℕ) → MayFollow old.state took AtEnd → bytes ≡ (so.took ++ took) ++ rest → rest ≡ []
+      → length (so.took ++ took) < most_bytes → to_come old took AtEnd ≡ ended e → EndsSo whole behind held so.sent e (steps_of_source bytes rest false)
   come_there e took bytes rest may split empty few is =
-      come_all e took bytes rest AllThere false may is
+      come_all e took bytes rest AtEnd false may is
       (source_there bytes (so.took ++ took) rest split (below_most (length (so.took ++ took)) few)
-      ∙ ap (λ (t : List ℕ). steps_of ((so.took ++ took) ++ t) AllThere) empty ∙ ap (λ (t : List ℕ). steps_of t AllThere) (append-nil (so.took ++ took)))
+      ∙ ap (λ (t : List ℕ). steps_of ((so.took ++ took) ++ t) AtEnd) empty ∙ ap (λ (t : List ℕ). steps_of t AtEnd) (append-nil (so.took ++ took)))
 
   come_anyway : (b : Bool) (e : ZeekEnd) (took bytes rest : List ℕ) → ((more : List ℕ) (stop : Stop) → MayFollow old.state more stop)
       → bytes ≡ (so.took ++ took) ++ rest → nat_le most_bytes (length (so.took ++ took)) ≡ b
@@ -299,7 +300,7 @@ module _ (whole behind : Steps → List ℕ) (held : List ℕ) (old : Reading) (
       come e took [] bytes rest AtBound false (any (took ++ []) AtBound) (is [] AtBound)
       (source_full bytes (so.took ++ took) rest split full ∙ ap (λ (t : List ℕ). steps_of t AtBound) (sym (append-nil (so.took ++ took))))
   come_anyway false e took bytes rest any split few is =
-      come e took rest bytes rest AllThere false (any (took ++ rest) AllThere) (is rest AllThere) (source_there bytes (so.took ++ took) rest split few)
+      come e took rest bytes rest AtEnd false (any (took ++ rest) AtEnd) (is rest AtEnd) (source_there bytes (so.took ++ took) rest split few)
 
   -- what was sent is the first part, whatever was taken besides
   sent_part : (steps : Steps) (took more : List ℕ) (stop : Stop) → MayFollow old.state (took ++ more) stop → steps ≡ steps_of ((so.took ++ took) ++ more) stop
@@ -316,7 +317,7 @@ module _ (whole behind : Steps → List ℕ) (held : List ℕ) (old : Reading) (
       sent_part (steps_of_source bytes rest false) took [] AtBound (any (took ++ []) AtBound)
       (source_full bytes (so.took ++ took) rest split full ∙ ap (λ (t : List ℕ). steps_of t AtBound) (sym (append-nil (so.took ++ took))))
   sent_by false took bytes rest any split few =
-      sent_part (steps_of_source bytes rest false) took rest AllThere (any (took ++ rest) AllThere) (source_there bytes (so.took ++ took) rest split few)
+      sent_part (steps_of_source bytes rest false) took rest AtEnd (any (took ++ rest) AtEnd) (source_there bytes (so.took ++ took) rest split few)
 
   split_is : (bytes took rest : List ℕ) → left ≡ Some bytes → mid ≡ prepend_known took (Some rest) → bytes ≡ (so.took ++ took) ++ rest
   split_is bytes took rest at from =
@@ -336,13 +337,13 @@ module _ (whole behind : Steps → List ℕ) (held : List ℕ) (old : Reading) (
       → e ≢ end.Memory → f < 2 ^ 64 - 1 → EndsSo whole behind held so.sent e (steps_of_source bytes rest (nat_lt f g))
   ends_as end.Done new took bytes rest f g any split count is counts some room =
       subst (λ (b : Bool). EndsSo whole behind held so.sent end.Done (steps_of_source bytes rest b)) (sym (not_below f g counts))
-      (come_there end.Done took bytes rest (any took AllThere) split is.1.0 (omega (arith, is.1.1, count)) is.0)
+      (come_there end.Done took bytes rest (any took AtEnd) split is.1.0 (omega (arith, is.1.1, count)) is.0)
   ends_as (end.Fault l c w) new took bytes rest f g any split count (inl is) counts some room =
       subst (λ (b : Bool). EndsSo whole behind held so.sent (end.Fault l c w) (steps_of_source bytes rest b)) (sym (not_below f g counts))
       (come_anyway (nat_le most_bytes (length (so.took ++ took))) (end.Fault l c w) took bytes rest any split refl is)
   ends_as (end.Fault l c w) new took bytes rest f g any split count (inr is) counts some room =
       subst (λ (b : Bool). EndsSo whole behind held so.sent (end.Fault l c w) (steps_of_source bytes rest b)) (sym (not_below f g counts))
-      (come_there (end.Fault l c w) took bytes rest (any took AllThere) split is.1.0 (omega (arith, is.1.1, count)) is.0)
+      (come_there (end.Fault l c w) took bytes rest (any took AtEnd) split is.1.0 (omega (arith, is.1.1, count)) is.0)
   ends_as end.ReadFault new took bytes rest f g any split count is counts some room =
       subst (λ (b : Bool). EndsSo whole behind held so.sent end.ReadFault (steps_of_source bytes rest b)) (sym (rose_above f g room counts))
       (come_all end.ReadFault took bytes rest Failed true (any took Failed) is (source_failed bytes (so.took ++ took) rest split))
@@ -377,9 +378,9 @@ module _ (whole behind : Steps → List ℕ) (held : List ℕ) (old : Reading) (
       let there : IsMet (Some rest) old.taken = subst (λ (k : Option (List ℕ)). IsMet k old.taken) (sym same) met in
       subst (λ (b : Bool). EndsSo whole behind held so.sent end.Done (steps_of_source bytes rest b)) (sym (not_below f g counts))
       (come_there end.Done [] bytes rest
-      (subst (λ (st : State). MayFollow st [] AllThere) (sym last) (refl, refl))
+      (subst (λ (st : State). MayFollow st [] AtEnd) (sym last) (refl, refl))
       (split_is bytes [] rest at (sym same ∙ sym (prepend_known-nil (Some rest)))) there.0 (omega (arith, there.1, so.count, length-append so.took []))
-      (ap (λ (st : State). come_from st (old.held ++ []) AllThere) last))
+      (ap (λ (st : State). come_from st (old.held ++ []) AtEnd) last))
 
 whole_behind : (full text sent : List ℕ) (before mid now : Option (List ℕ)) → full ≡ sent ++ text → mid ≡ append_known before sent
     → now ≡ append_known mid text → now ≡ append_known before full
@@ -484,7 +485,7 @@ told_at (Reads told n) whole behind held old new left mid left_now before writte
 -- ---- where the source tells nothing
 
 -- what was told so far is told of the steps of what was taken, if nothing more comes
-going_there : (state : State) → MayFollow state [] AllThere
+going_there : (state : State) → MayFollow state [] AtEnd
 going_there (Reads told n) = tt
 going_there (Last told) = (refl, refl)
 going_there (Ended e) = tt
@@ -492,11 +493,11 @@ going_there (Ended e) = tt
 pub some_cut : (s : Status) (whole behind : Steps → List ℕ) (held : List ℕ) (reader : Reading) (left left_now before mid now : Option (List ℕ))
     → IsCut s → Going whole behind held reader left left_now before mid → ((rest : Steps) → WritesPart mid now (held ++ behind rest)) → TellsSome s whole before now
 some_cut s whole behind held reader left left_now before mid now cut so part =
-    let come = to_come reader [] AllThere in
-    let text = so.text [] AllThere (going_there reader.state) in
-    let written : WritesPart before now (whole (steps_of (so.took ++ []) AllThere)) =
+    let come = to_come reader [] AtEnd in
+    let text = so.text [] AtEnd (going_there reader.state) in
+    let written : WritesPart before now (whole (steps_of (so.took ++ []) AtEnd)) =
     subst (λ (t : List ℕ). WritesPart before now t) (sym text) (part_behind before mid now so.sent (held ++ behind come) so.written (part come)) in
-    (steps_of (so.took ++ []) AllThere, cut_text s (steps_of (so.took ++ []) AllThere).end (whole (steps_of (so.took ++ []) AllThere)) before now cut written)
+    (steps_of (so.took ++ []) AtEnd, cut_text s (steps_of (so.took ++ []) AtEnd).end (whole (steps_of (so.took ++ []) AtEnd)) before now cut written)
 
 -- nothing more was written
 some_kept : (s : Status) (whole behind : Steps → List ℕ) (held : List ℕ) (reader : Reading) (left left_now before mid now : Option (List ℕ))
@@ -518,15 +519,15 @@ some_fault : (l c : ℕ) (w : ZeekFault) (took : List ℕ) (taken : ℕ) (s : St
     → (so : Going whole behind held old left mid before written) → ((more : List ℕ) (stop : Stop) → MayFollow old.state more stop)
     → TellsText s (end.Fault l c w) (held ++ behind (ended (end.Fault l c w))) written now → TellsSome s whole before now
 some_fault l c w took taken s whole behind held old left mid left_now before written now (inl is) so any tells =
-    some_came s whole behind held old left mid left_now before written now (end.Fault l c w) (took ++ []) AllThere so (any (took ++ []) AllThere) (is [] AllThere) tells
+    some_came s whole behind held old left mid left_now before written now (end.Fault l c w) (took ++ []) AtEnd so (any (took ++ []) AtEnd) (is [] AtEnd) tells
 some_fault l c w took taken s whole behind held old left mid left_now before written now (inr is) so any tells =
-    some_came s whole behind held old left mid left_now before written now (end.Fault l c w) took AllThere so (any took AllThere) is.0 tells
+    some_came s whole behind held old left mid left_now before written now (end.Fault l c w) took AtEnd so (any took AtEnd) is.0 tells
 
 some_ends : (e : ZeekEnd) (s : Status) (whole behind : Steps → List ℕ) (held : List ℕ) (old new : Reading) (left mid left_now before written now : Option (List ℕ))
     → (so : Going whole behind held old left mid before written) → ((more : List ℕ) (stop : Stop) → MayFollow old.state more stop)
     → (closes : Closes old new mid left_now e) → e ≢ end.Memory → TellsText s e (held ++ behind (ended e)) written now → TellsSome s whole before now
 some_ends end.Done s whole behind held old new left mid left_now before written now so any closes some tells =
-    some_came s whole behind held old left mid left_now before written now end.Done closes.took AllThere so (any closes.took AllThere) closes.is.0 tells
+    some_came s whole behind held old left mid left_now before written now end.Done closes.took AtEnd so (any closes.took AtEnd) closes.is.0 tells
 some_ends end.ReadFault s whole behind held old new left mid left_now before written now so any closes some tells =
     some_came s whole behind held old left mid left_now before written now end.ReadFault closes.took Failed so (any closes.took Failed) closes.is tells
 some_ends end.TooLong s whole behind held old new left mid left_now before written now so any closes some tells =
@@ -552,8 +553,8 @@ pub some_at : (st : State) (whole behind : Steps → List ℕ) (held : List ℕ)
 some_at (Ended last) whole behind held old new left mid left_now before written now e s so is is_opened follows tells memory = absurd (false_true is_opened)
 some_at (Last told) whole behind held old new left mid left_now before written now e s so is is_opened follows tells memory =
     let done : e ≡ end.Done = err_is e end.Done follows.0 in
-    some_came s whole behind held old left mid left_now before written now e [] AllThere so (subst (λ (x : State). MayFollow x [] AllThere) (sym is) (refl, refl))
-    (ap (λ (x : State). come_from x (old.held ++ []) AllThere) is ∙ ap ended (sym done)) (tells (not_memory e done))
+    some_came s whole behind held old left mid left_now before written now e [] AtEnd so (subst (λ (x : State). MayFollow x [] AtEnd) (sym is) (refl, refl))
+    (ap (λ (x : State). come_from x (old.held ++ []) AtEnd) is ∙ ap ended (sym done)) (tells (not_memory e done))
 some_at (Reads told n) whole behind held old new left mid left_now before written now e s so is is_opened follows tells memory =
     some_reads (is_memory e) s whole behind held old new left mid left_now before written now e so
     (λ more stop. subst (λ (x : State). MayFollow x more stop) (sym is) tt) follows refl tells memory

@@ -9,7 +9,7 @@ use Rattle.vast_io.specs.Causes.{Rose}
 use Rattle.vast_io.specs.Told.{WritesPart, IsAtEnd}
 use Rattle.zeek_log.specs.declared.step.ZeekEnd.TheVariants as end
 use Rattle.zeek_log.specs.declared.step.ZeekEnd.{ZeekEnd}
-use Rattle.zeek_log.specs.Lines.{AllThere}
+use Rattle.source_block.specs.declared.stop.Stop.TheVariants.{AtEnd}
 use Rattle.zeek_log.specs.Steps.{Steps, steps_of, steps_of_source}
 use Rattle.vast.specs.declared.status.Status.{Status}
 use Rattle.vast.specs.declared.status.Status.TheVariants.{Done, Usage, QueryRefused, OpenFault, WriteFault, ReadFault, InputFault, Full, ScriptFault, TooLong, Memory}
@@ -221,7 +221,7 @@ IsSound None = ⊥
 
 -- the bytes are fewer than are taken of a source, and a log without a fault
 abbrev pub IsWhole : List ℕ → Type 0
-IsWhole bytes = (length bytes < 2 ^ 36) × ((steps_of bytes AllThere).end ≡ end.Done)
+IsWhole bytes = (length bytes < 2 ^ 36) × ((steps_of bytes AtEnd).end ≡ end.Done)
 
 abbrev pub IsDone : Status → Type 0
 IsDone Done = Unit {0}

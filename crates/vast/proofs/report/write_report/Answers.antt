@@ -2,11 +2,20 @@ use Rattle.std.proofs.Common.{ℕ, ◌++◌, refl, Option, Err, subst, sym, ap, 
 use Rattle.vast_io.proofs.Writing.{part_none}
 use Rattle.vast_value.specs.Headings.{Heading}
 use Rattle.zeek_log.specs.Reader.{CountsOf, heading_told}
+use Rattle.zeek_log.specs.declared.step.ZeekEnd.TheVariants.{Done}
 use Rattle.zeek_log.specs.Steps.{ended, first, step_of}
 use Rattle.vast.specs.declared.status.Status.TheVariants.{Memory}
 use Rattle.vast.specs.Reports.{heading_after}
 use Rattle.vast.proofs.GoingLemmas.{Parts, going_next, going_moves, going_part, told_cut, cut_status, IsCut, told_at, some_cut, some_at, reads_well, leaves_nothing, sink_on, is_memory, heading_goes, open_by, step_kept}
 use Rattle.vast.proofs.report.write_report.Goals as goal
+
+pub returns-in_default-clause-untold : goal.returns-in_default-clause-untold
+returns-in_default-clause-untold g c =
+    (ended Done, part_none (g.K.Sink.written c.args.sink.now) (g.K.Sink.written c.args.sink.now) (g.W.Report.behind c.args.report.now (ended Done)) refl)
+
+pub returns-in_default-new-clause-untold : goal.returns-in_default-new-clause-untold
+returns-in_default-new-clause-untold g c =
+    (ended Done, part_none (g.K.Sink.written c.args.sink.now) (g.K.Sink.written c.args.sink.now) (g.W.Report.behind c.args.report.now (ended Done)) refl)
 
 pub returns-in-Err-write_step-clause-told : goal.returns-in-Err-write_step-clause-told
 returns-in-Err-write_step-clause-told g c =
