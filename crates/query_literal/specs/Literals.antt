@@ -104,6 +104,11 @@ subnet_literal word = option_map value.Subnet (subnet_of word)
 abbrev pub time_literal : List ℕ → Option Value
 time_literal word = option_map value.Time (option_and_then (λ text. option_or (span_of text) (moment_of text)) (behind_byte 64 word))
 
+-- what a word gives in each of the forms
+abbrev pub literal_forms : List ℕ → List (Option Value)
+literal_forms word =
+    count_literal word ∷ (int_literal word ∷ (span_literal word ∷ (port_literal word ∷ (addr_literal word ∷ (subnet_literal word ∷ (time_literal word ∷ []))))))
+
 -- One of the forms. No word has two of them, so their order says nothing.
 unfoldable pub literal_read : List ℕ → Option Value
 literal_read word =

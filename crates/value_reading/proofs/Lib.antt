@@ -9,3 +9,4 @@ pub mod KindLemmas
 pub mod NumberLemmas
 pub mod OctetLemmas
 pub mod PlainLemmas
+mod Vectors

@@ -61,67 +61,25 @@ fn reads_cell(alloc: Global, marks: &Marks, kind: Kind, raw: &str, seen: &Seen) 
     }
 }
 
+// Each kind once, and a text that takes memory.
 #[test]
-fn numbers_are_read_in_their_ranges(rt: HostRuntime) {
+fn a_value_of_each_kind_is_read(rt: HostRuntime) {
     let rows = [
         (Elem::Bool, "T", Seen::Number(1)),
         (Elem::Count, "007", Seen::Number(7)),
-        (
-            Elem::Count,
-            "18446744073709551615",
-            Seen::Number(18446744073709551615),
-        ),
-        (Elem::Count, "18446744073709551616", Seen::Bad),
-        (Elem::Count, "0000000000000000000000001", Seen::Number(1)),
-        (Elem::Count, "", Seen::Bad),
         (Elem::Int, "-0", Seen::Number(0)),
-        (
-            Elem::Int,
-            "-9223372036854775808",
-            Seen::Number(-9223372036854775808),
-        ),
-        (Elem::Int, "9223372036854775808", Seen::Bad),
         (Elem::Time, "1.", Seen::Number(1000000000)),
-        (Elem::Time, "-0.000000001", Seen::Number(-1)),
-        (Elem::Span, "1.0000000000", Seen::Bad),
-        (Elem::Span, ".5", Seen::Bad),
-        (Elem::Port, "65535", Seen::Number(65535)),
+        (Elem::Span, "-0.000000001", Seen::Number(-1)),
+        (Elem::Port, "65535/icmp", Seen::Number(65535)),
         (Elem::Port, "65536", Seen::Bad),
-    ];
-    for (elem, text, seen) in &rows {
-        assert!(rt; reads(rt.alloc(), *elem, text, seen), "{text}");
-    }
-}
-
-#[test]
-fn addresses_are_read_by_their_forms(rt: HostRuntime) {
-    let rows = [
-        (Elem::Addr, "1.2.3.4", Seen::Addr(0xffff_0102_0304)),
         (Elem::Addr, "::ffff:1.2.3.4", Seen::Addr(0xffff_0102_0304)),
-        (Elem::Addr, "001.2.3.255", Seen::Addr(0xffff_0102_03ff)),
-        (Elem::Addr, "1.2.3.256", Seen::Bad),
-        (Elem::Addr, "1.2.3", Seen::Bad),
-        (Elem::Addr, "::", Seen::Addr(0)),
-        (Elem::Addr, "1::2::3", Seen::Bad),
-        (
-            Elem::Addr,
-            "1:2:3:4:5:6:7:8",
-            Seen::Addr(0x0001_0002_0003_0004_0005_0006_0007_0008),
-        ),
-        (Elem::Addr, "1:2:3:4:5:6:7::8", Seen::Bad),
-        (
-            Elem::Addr,
-            "FE80::1:2",
-            Seen::Addr(0xfe80_0000_0000_0000_0000_0000_0001_0002),
-        ),
         (Elem::Subnet, "10.1.2.3/8", Seen::Net(0xffff_0a00_0000, 104)),
-        (Elem::Subnet, "10.0.0.0/33", Seen::Bad),
         (
-            Elem::Subnet,
-            "::ffff:10.0.0.0/104",
-            Seen::Net(0xffff_0a00_0000, 104),
+            Elem::Text,
+            "a text of more than twenty bytes",
+            Seen::Text("a text of more than twenty bytes"),
         ),
-        (Elem::Subnet, "::1/0", Seen::Net(0, 0)),
+        (Elem::Name, "", Seen::Text("")),
     ];
     for (elem, text, seen) in &rows {
         assert!(rt; reads(rt.alloc(), *elem, text, seen), "{text}");
@@ -140,13 +98,10 @@ fn marks_come_before_escapes(rt: HostRuntime) -> Result<(), Fail> {
             "a\\\\x41\\x4",
             Seen::Text("a\\x41\\x4"),
         ),
-        (Kind::One(Elem::Text), "", Seen::Text("")),
-        (Kind::One(Elem::Name), "(empty)", Seen::Text("")),
         (Kind::SetOf(Elem::Count), "(empty)", Seen::Many(0)),
-        (Kind::SetOf(Elem::Count), "1,(empty)", Seen::Bad),
         (Kind::SetOf(Elem::Count), "1,-,3", Seen::Many(3)),
+        (Kind::VecOf(Elem::Port), "53/udp,53/x", Seen::Bad),
         (Kind::VecOf(Elem::Text), "", Seen::Many(1)),
-        (Kind::VecOf(Elem::Count), "", Seen::Bad),
     ];
     for (kind, raw, seen) in &rows {
         assert!(rt; reads_cell(rt.alloc(), &marks, *kind, raw, seen), "{raw}");

@@ -1,1 +1,2 @@
 pub use Rattle.value_reading.proofs.KindLemmas
+pub mod LiteralLemmas

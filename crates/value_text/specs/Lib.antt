@@ -7,3 +7,4 @@ pub use Rattle.value_reading.specs.Ports
 pub use Rattle.value_reading.specs.Reading
 pub use Rattle.value_writing.specs.Writing
 pub use Rattle.query_literal.specs.Literals
+pub mod LiteralTexts

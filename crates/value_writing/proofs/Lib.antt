@@ -10,3 +10,4 @@ pub mod WritingOctets
 pub mod WritingPorts
 pub mod WritingSubnets
 pub mod WritingTexts
+mod Vectors

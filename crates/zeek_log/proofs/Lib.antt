@@ -6,4 +6,5 @@ pub mod LawLemmas
 pub mod LineLemmas
 pub mod NearLemmas
 pub mod PieceLemmas
+pub mod RowLawLemmas
 mod Vectors

@@ -1,8 +1,14 @@
 //! Laws of the lines and cells of a text.
-ghost use Rattle.std.specs.Prelude.{◌≡◌, ◌+◌, ◌==◌, count_by, length};
+ghost use Rattle.std.specs.Prelude.{◌≡◌, ◌+◌, ◌==◌, List, Ok, count_by, false, length, map, true};
 ghost use Rattle.std.specs.List.{join_with_byte};
 ghost use Rattle.source_block.specs.declared.stop.Stop.TheVariants.{AtEnd};
+ghost use Rattle.value_text.specs.declared.Marks.{Marks};
+ghost use Rattle.value_text.specs.Writing.{AreUsual, cell_text};
+ghost use Rattle.vast_value.specs.declared.cell.Cell.{Cell};
+ghost use Rattle.vast_value.specs.Headings.{Field, fits_fields};
+ghost use Rattle.vast_value.specs.Layouts.{is_empty};
 ghost use Rattle.zeek_log.specs.Lines.{lines_of, pieces_of};
+ghost use Rattle.zeek_log.specs.Table.{row_read};
 
 /// The lines of a text, with a newline between two, are the text, and they are one more than its newlines.
 #[tactic(auto, using(crate::proofs::LawLemmas::lines_joined, crate::proofs::LawLemmas::lines_counted))]
@@ -16,4 +22,10 @@ pub fn lines_are_a_text(text: &[u8])
 pub fn cells_are_a_line(separator: u8, line: &[u8])
     ensures joined { join_with_byte separator (pieces_of separator line.now) ≡ line.now }
     ensures counted { length (pieces_of separator line.now) ≡ count_by (λ b. b == separator) line.now + 1 }
+{}
+
+/// The texts of a row's cells, as they are written, with a tab between two, are read as this row.
+#[tactic(auto, using(crate::proofs::RowLawLemmas::row_again))]
+pub fn a_written_row_is_read()
+    ensures { (marks : Marks) (fields : List Field) (row : List Cell) → AreUsual marks → fits_fields fields row ≡ true → is_empty row ≡ false → row_read marks fields (pieces_of 9 (join_with_byte 9 (map cell_text row))) ≡ Ok row }
 {}

@@ -1,0 +1,94 @@
+-- A line of the cells of a row, as they are written, is read as this row.
+use Rattle.std.proofs.Common.{◌≡◌, ℕ, ◌+◌, ◌≤◌, ◌==◌, ◌&&◌, Bool, true, false, List, [], ◌∷◌, ◌++◌, Option, None, Some, Result, Ok, length, map, nat_le, nat_lt, refl, ap, ◌∙◌, arith}
+use Rattle.std.specs.List.{list_all, join_with_byte}
+use Rattle.std.proofs.lemmas.Bool.{and_parts, leb-true, ne_eqb, eq-eqb}
+use Rattle.std.proofs.lemmas.List.{length-map}
+use Rattle.vast_value.specs.declared.cell.Cell.{Cell}
+use Rattle.vast_value.specs.declared.cell.Cell.TheVariants.{Unset, One, Many}
+use Rattle.vast_value.specs.declared.value.Value.{Value}
+use Rattle.vast_value.specs.Fit.{is_sized, is_ranged, is_ranged_element, is_ranged_cell, is_bounded_element, is_small, most_parts}
+use Rattle.vast_value.specs.Headings.{Field, fits_field, fits_fields}
+use Rattle.vast_value.specs.Kinds.{has_kind}
+use Rattle.vast_value.specs.Layouts.{is_empty}
+use Rattle.value_text.specs.declared.Marks.{Marks}
+use Rattle.value_text.specs.Reading.{cell_read}
+use Rattle.value_text.specs.Writing.{AreUsual, cell_text, is_printable}
+use Rattle.value_writing.proofs.WritingCells.{cell_again, cell_printable}
+use Rattle.zeek_log.specs.declared.fault.At.{At}
+use Rattle.zeek_log.specs.Lines.{pieces_of}
+use Rattle.zeek_log.specs.Table.{cells_read, row_read, then_cell}
+
+-- a cell that fits is in range
+ranged_items : (items : List (Option Value)) → list_all is_bounded_element items ≡ true → list_all is_ranged_element items ≡ true
+ranged_items [] e = refl
+ranged_items (None ∷ items) e = ranged_items items e
+ranged_items (Some v ∷ items) e =
+    let parts = and_parts (is_sized v && is_ranged v) (list_all is_bounded_element items) e in
+    let here : is_ranged v ≡ true = (and_parts (is_sized v) (is_ranged v) parts.0).1 in
+    rw here (ranged_items items parts.1)
+
+ranged : (x : Cell) → is_small x ≡ true → is_ranged_cell x ≡ true
+ranged Unset e = refl
+ranged (One v) e = (and_parts (is_sized v) (is_ranged v) e).1
+ranged (Many items) e = ranged_items items (and_parts (nat_le (length items) most_parts) (list_all is_bounded_element items) e).1
+
+-- no printable byte is a tab
+no_tab : (b : ℕ) → is_printable b ≡ true → (b == 9) ≡ false
+no_tab b e = let low = leb-true 32 b (and_parts (nat_le 32 b) (nat_lt b 127) e).0 in ne_eqb b 9 (λ same. absurd (omega (arith, same, low)))
+
+-- a text without a tab, and others behind a tab, or none
+split_piece : (x rest : List ℕ) → list_all is_printable x ≡ true → pieces_of 9 (x ++ (9 ∷ rest)) ≡ x ∷ pieces_of 9 rest
+split_piece [] rest e = refl
+split_piece (b ∷ x) rest e =
+    let parts = and_parts (is_printable b) (list_all is_printable x) e in
+    let no = no_tab b parts.0 in
+    let behind = split_piece x rest parts.1 in
+    rw (no, behind) refl
+
+split_last : (x : List ℕ) → list_all is_printable x ≡ true → pieces_of 9 x ≡ x ∷ []
+split_last [] e = refl
+split_last (b ∷ x) e =
+    let parts = and_parts (is_printable b) (list_all is_printable x) e in
+    let no = no_tab b parts.0 in
+    let behind = split_last x parts.1 in
+    rw (no, behind) refl
+
+-- the cells of a row, joined by tabs, are cut again
+cut_again : (row : List Cell) → is_empty row ≡ false → list_all is_ranged_cell row ≡ true → pieces_of 9 (join_with_byte 9 (map cell_text row)) ≡ map cell_text row
+cut_again [] some e = cc
+cut_again (x ∷ []) some e = split_last (cell_text x) (cell_printable x (and_parts (is_ranged_cell x) true e).0)
+cut_again (x ∷ (y ∷ row)) some e =
+    let parts = and_parts (is_ranged_cell x) (list_all is_ranged_cell (y ∷ row)) e in
+    split_piece (cell_text x) (join_with_byte 9 (map cell_text (y ∷ row))) (cell_printable x parts.0)
+    ∙ ap (λ (xs : List (List ℕ)). cell_text x ∷ xs) (cut_again (y ∷ row) refl parts.1)
+
+all_ranged : (fields : List Field) (row : List Cell) → fits_fields fields row ≡ true → list_all is_ranged_cell row ≡ true
+all_ranged [] [] fits = refl
+all_ranged [] (x ∷ row) fits = absurd cc
+all_ranged (f ∷ fields) [] fits = refl
+all_ranged (f ∷ fields) (x ∷ row) fits =
+    let parts = and_parts (fits_field f x) (fits_fields fields row) fits in
+    let here : is_ranged_cell x ≡ true = ranged x (and_parts (has_kind x f.kind) (is_small x) parts.0).1 in
+    rw here (all_ranged fields row parts.1)
+
+as_many : (fields : List Field) (row : List Cell) → fits_fields fields row ≡ true → length row ≡ length fields
+as_many [] [] fits = refl
+as_many [] (x ∷ row) fits = absurd cc
+as_many (f ∷ fields) [] fits = absurd cc
+as_many (f ∷ fields) (x ∷ row) fits = let rest = as_many fields row (and_parts (fits_field f x) (fits_fields fields row) fits).1 in omega (arith, rest)
+
+cells_again : (marks : Marks) (n : ℕ) (fields : List Field) (row : List Cell) → AreUsual marks → fits_fields fields row ≡ true → cells_read marks n fields (map cell_text row) ≡ Ok row
+cells_again marks n [] [] usual fits = refl
+cells_again marks n [] (x ∷ row) usual fits = absurd cc
+cells_again marks n (f ∷ fields) [] usual fits = absurd cc
+cells_again marks n (f ∷ fields) (x ∷ row) usual fits =
+    let parts = and_parts (fits_field f x) (fits_fields fields row) fits in
+    let here = and_parts (has_kind x f.kind) (is_small x) parts.0 in
+    ap (λ (o : Option Cell). then_cell n o (cells_read marks (n + 1) fields (map cell_text row))) (cell_again marks f.kind x usual here.0 (ranged x here.1))
+    ∙ ap (then_cell n (Some x)) (cells_again marks (n + 1) fields row usual parts.1)
+
+pub row_again : (marks : Marks) (fields : List Field) (row : List Cell) → AreUsual marks → fits_fields fields row ≡ true → is_empty row ≡ false
+    → row_read marks fields (pieces_of 9 (join_with_byte 9 (map cell_text row))) ≡ Ok row
+row_again marks fields row usual fits some =
+    let many : (length (map cell_text row) == length fields) ≡ true = eq-eqb (length (map cell_text row)) (length fields) (length-map row cell_text ∙ as_many fields row fits) in
+    ap (row_read marks fields) (cut_again row some (all_ranged fields row fits)) ∙ rw many (cells_again marks 1 fields row usual fits)
