@@ -2,7 +2,7 @@
 use Rattle.std.proofs.Common.{◌≡◌, ◌<◌, ◌≤◌, ◌+◌, ◌^◌, ℕ, zero, suc, List, [], ◌∷◌, ◌++◌, set, Result, Ok, Err, is_err, OnOk, Bool, true, false, arith, refl, ◌&&◌}
 use Rattle.std.proofs.lemmas.Bool.Decides.{nat_tests}
 use Rattle.std.specs.List.{list_all}
-use Rattle.pcap_flow.specs.Keys.{same_end}
+use Rattle.pcap_flow.specs.Keys.{same_endpoint}
 use Rattle.pcap_flow.specs.Steps.{flow_key, begun, joined, is_bounded, is_timed}
 use Rattle.pcap_flow.specs.declared.flow.Flow.{Flow}
 use Rattle.pcap_flow.specs.declared.sighting.Sighting.{Sighting}
@@ -17,9 +17,9 @@ and_both a b h k = rw (h, k) refl
 
 -- a further packet leaves the ends and the protocol
 pub key_joined : (s : Sighting) (f : Flow) → flow_key (joined s f) ≡ flow_key f
-key_joined s f = by (same_end s.source f.source) refl
+key_joined s f = by (same_endpoint s.source f.source) refl
   where
-    by : (b : Bool) → same_end s.source f.source ≡ b → flow_key (joined s f) ≡ flow_key f
+    by : (b : Bool) → same_endpoint s.source f.source ≡ b → flow_key (joined s f) ≡ flow_key f
     by true e = rw e refl
     by false e = rw e refl
 
@@ -31,9 +31,9 @@ pub bounded_begun : (n : ℕ) (s : Sighting) → s.time < 2 ^ 63 → s.original 
 bounded_begun n s t o = grind (arith, nat_tests)
 
 pub bounded_joined : (n : ℕ) (s : Sighting) (f : Flow) → s.time < 2 ^ 63 → s.original < 2 ^ 32 → is_bounded n f ≡ true → is_bounded (n + 1) (joined s f) ≡ true
-bounded_joined n s f t o h = by (same_end s.source f.source) refl
+bounded_joined n s f t o h = by (same_endpoint s.source f.source) refl
   where
-    by : (b : Bool) → same_end s.source f.source ≡ b → is_bounded (n + 1) (joined s f) ≡ true
+    by : (b : Bool) → same_endpoint s.source f.source ≡ b → is_bounded (n + 1) (joined s f) ≡ true
     by true e = rw e (grind (arith, nat_tests))
     by false e = rw e (grind (arith, nat_tests))
 

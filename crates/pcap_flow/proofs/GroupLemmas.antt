@@ -7,13 +7,13 @@ use Rattle.std.proofs.lemmas.Bool.{ltb-true}
 use Rattle.std.proofs.lemmas.Bool.Decides.{nat_tests}
 use Rattle.std.proofs.lemmas.List.Sums.{sum_by-append, fold-append}
 use Rattle.std.proofs.lemmas.List.Folds.{list_all-append}
-use Rattle.pcap_flow.specs.Keys.{same_end, same_key}
+use Rattle.pcap_flow.specs.Keys.{same_endpoint, same_key}
 use Rattle.pcap_flow.specs.Sightings.{sighting_of, key_of, has_key}
-use Rattle.pcap_flow.specs.Groups.{begins, members, groups_after, flow_of, bytes_if, pause}
+use Rattle.pcap_flow.specs.Groups.{begins, members, groups_after, flow_of, bytes_if, idle_timeout}
 use Rattle.pcap_flow.specs.Steps.{flow_key, begun, joined, is_over, latest_flow, join_latest, with_sighting, with_packet}
 use Rattle.pcap_flow.specs.Laws.{StepsGiveFlows}
 use Rattle.pcap_flow.specs.declared.packet.Packet.{Packet}
-use Rattle.pcap_flow.specs.declared.key.Key.{Key}
+use Rattle.pcap_flow.specs.declared.key.FlowKey.{FlowKey}
 use Rattle.pcap_flow.specs.declared.flow.Flow.{Flow}
 use Rattle.pcap_flow.specs.declared.sighting.Sighting.{Sighting}
 use Rattle.pcap_flow.proofs.FlowLemmas.{key_joined, and_parts, and_both}
@@ -34,20 +34,20 @@ last_push m ms q = fold-append (λ (greatest : ℕ) (s : Sighting). max greatest
 
 -- a flow with one packet more
 flow_push : (x q : Sighting) (ms : List Sighting) → flow_of (record { first = x; others = ms ++ q ∷ [] }) ≡ joined q (flow_of (record { first = x; others = ms }))
-flow_push x q ms = by (same_end q.source x.source) refl
+flow_push x q ms = by (same_endpoint q.source x.source) refl
   where
-    by : (b : Bool) → same_end q.source x.source ≡ b → flow_of (record { first = x; others = ms ++ q ∷ [] }) ≡ joined q (flow_of (record { first = x; others = ms }))
+    by : (b : Bool) → same_endpoint q.source x.source ≡ b → flow_of (record { first = x; others = ms ++ q ∷ [] }) ≡ joined q (flow_of (record { first = x; others = ms }))
     by true e =
-        let sent = sum_push (λ (s : Sighting). if same_end s.source x.source then 1 else 0) (x ∷ ms) q in
-        let sent_bytes = sum_push (λ (s : Sighting). bytes_if (same_end s.source x.source) s) (x ∷ ms) q in
-        let got = sum_push (λ (s : Sighting). if not (same_end s.source x.source) then 1 else 0) (x ∷ ms) q in
-        let got_bytes = sum_push (λ (s : Sighting). bytes_if (not (same_end s.source x.source)) s) (x ∷ ms) q in
+        let sent = sum_push (λ (s : Sighting). if same_endpoint s.source x.source then 1 else 0) (x ∷ ms) q in
+        let sent_bytes = sum_push (λ (s : Sighting). bytes_if (same_endpoint s.source x.source) s) (x ∷ ms) q in
+        let got = sum_push (λ (s : Sighting). if not (same_endpoint s.source x.source) then 1 else 0) (x ∷ ms) q in
+        let got_bytes = sum_push (λ (s : Sighting). bytes_if (not (same_endpoint s.source x.source)) s) (x ∷ ms) q in
         rw (last_push x.time ms q, sent, sent_bytes, got, got_bytes, e) (simp add-zero)
     by false e =
-        let sent = sum_push (λ (s : Sighting). if same_end s.source x.source then 1 else 0) (x ∷ ms) q in
-        let sent_bytes = sum_push (λ (s : Sighting). bytes_if (same_end s.source x.source) s) (x ∷ ms) q in
-        let got = sum_push (λ (s : Sighting). if not (same_end s.source x.source) then 1 else 0) (x ∷ ms) q in
-        let got_bytes = sum_push (λ (s : Sighting). bytes_if (not (same_end s.source x.source)) s) (x ∷ ms) q in
+        let sent = sum_push (λ (s : Sighting). if same_endpoint s.source x.source then 1 else 0) (x ∷ ms) q in
+        let sent_bytes = sum_push (λ (s : Sighting). bytes_if (same_endpoint s.source x.source) s) (x ∷ ms) q in
+        let got = sum_push (λ (s : Sighting). if not (same_endpoint s.source x.source) then 1 else 0) (x ∷ ms) q in
+        let got_bytes = sum_push (λ (s : Sighting). bytes_if (not (same_endpoint s.source x.source)) s) (x ∷ ms) q in
         rw (last_push x.time ms q, sent, sent_bytes, got, got_bytes, e) (simp add-zero)
 
 -- a flow of one packet
@@ -55,7 +55,7 @@ flow_one : (q : Sighting) → flow_of (record { first = q; others = [] }) ≡ be
 flow_one q = let e = same_end_refl q.source in rw e (simp zero-add)
 
 -- the latest flow after one more
-latest_push : (k : Key) (fs : List Flow) (f : Flow) → latest_flow k (fs ++ f ∷ []) ≡ (if same_key (flow_key f) k then Some f else latest_flow k fs)
+latest_push : (k : FlowKey) (fs : List Flow) (f : Flow) → latest_flow k (fs ++ f ∷ []) ≡ (if same_key (flow_key f) k then Some f else latest_flow k fs)
 unfolding latest_flow
 latest_push k [] f = refl
 latest_push k (g ∷ fs) f = by (latest_push k fs f) (same_key (flow_key f) k) refl
@@ -74,11 +74,11 @@ latest_join s (f ∷ fs) = by (latest_join s fs) (latest_flow (key_of s) fs) ref
     by : (latest_flow (key_of s) (join_latest s fs) ≡ option_map (joined s) (latest_flow (key_of s) fs)) → (o : Option Flow) → latest_flow (key_of s) fs ≡ o
         → (b : Bool) → same_key (flow_key f) (key_of s) ≡ b → latest_flow (key_of s) (join_latest s (f ∷ fs)) ≡ option_map (joined s) (latest_flow (key_of s) (f ∷ fs))
     by ih (Some g) e b e' = let now = ih ∙ ap (option_map (joined s)) e in rw (e, now) refl
-    by ih None e true e' = let key = ap (λ (k : Key). same_key k (key_of s)) (key_joined s f) ∙ e' in rw (e, e', e, key) refl
+    by ih None e true e' = let key = ap (λ (k : FlowKey). same_key k (key_of s)) (key_joined s f) ∙ e' in rw (e, e', e, key) refl
     by ih None e false e' = rw (e, e', e, e') refl
 
 -- and of another key
-latest_join_other : (k : Key) (s : Sighting) → same_key (key_of s) k ≡ false → (fs : List Flow) → latest_flow k (join_latest s fs) ≡ latest_flow k fs
+latest_join_other : (k : FlowKey) (s : Sighting) → same_key (key_of s) k ≡ false → (fs : List Flow) → latest_flow k (join_latest s fs) ≡ latest_flow k fs
 unfolding latest_flow join_latest
 latest_join_other k s h [] = refl
 latest_join_other k s h (f ∷ fs) = by (latest_join_other k s h fs) (latest_flow (key_of s) fs) refl (same_key (flow_key f) (key_of s)) refl
@@ -87,8 +87,8 @@ latest_join_other k s h (f ∷ fs) = by (latest_join_other k s h fs) (latest_flo
         → (b : Bool) → same_key (flow_key f) (key_of s) ≡ b → latest_flow k (join_latest s (f ∷ fs)) ≡ latest_flow k (f ∷ fs)
     by ih (Some g) e b e' = rw (e, ih) refl
     by ih None e true e' =
-        let key = ap (λ (l : Key). same_key l k) (same_key_eq (flow_key f) (key_of s) e') ∙ h in
-        let now = ap (λ (l : Key). same_key l k) (key_joined s f) ∙ key in
+        let key = ap (λ (l : FlowKey). same_key l k) (same_key_eq (flow_key f) (key_of s) e') ∙ h in
+        let now = ap (λ (l : FlowKey). same_key l k) (key_joined s f) ∙ key in
         rw (e, e', now, key) refl
     by ih None e false e' = rw (e, e') refl
 
@@ -116,7 +116,7 @@ moved : (earlier : List Sighting) (x : Sighting) (rest : List Sighting) → (ear
 moved earlier x rest = append_assoc earlier (x ∷ []) rest
 
 -- a packet that begins a flow is a member of none that began before
-members_begun : (k : Key) (q : Sighting) (rest earlier : List Sighting) → begins (earlier ++ rest) q ≡ true → members earlier k (rest ++ q ∷ []) ≡ members earlier k rest
+members_begun : (k : FlowKey) (q : Sighting) (rest earlier : List Sighting) → begins (earlier ++ rest) q ≡ true → members earlier k (rest ++ q ∷ []) ≡ members earlier k rest
 unfolding members
 members_begun k q [] earlier h = by (has_key k q) refl
   where
@@ -135,7 +135,7 @@ members_begun k q (x ∷ rest) earlier h = by (members_begun k q rest (earlier +
     by ih false e a e' = rw (e, ih) refl
 
 -- nor is one of another key
-members_other : (k : Key) (q : Sighting) → has_key k q ≡ false → (rest earlier : List Sighting) → members earlier k (rest ++ q ∷ []) ≡ members earlier k rest
+members_other : (k : FlowKey) (q : Sighting) → has_key k q ≡ false → (rest earlier : List Sighting) → members earlier k (rest ++ q ∷ []) ≡ members earlier k rest
 unfolding members
 members_other k q h [] earlier = rw h refl
 members_other k q h (x ∷ rest) earlier = by (members_other k q h rest (earlier ++ x ∷ [])) (has_key k x) refl (begins earlier x) refl
@@ -147,19 +147,19 @@ members_other k q h (x ∷ rest) earlier = by (members_other k q h rest (earlier
     by ih false e a e' = rw (e, ih) refl
 
 -- the latest of the flows that begin in what follows, with a packet in front
-latest_cons : (k : Key) (x : Sighting) (rest earlier : List Sighting) → begins earlier x ≡ true
+latest_cons : (k : FlowKey) (x : Sighting) (rest earlier : List Sighting) → begins earlier x ≡ true
     → latest_flow k (flows_after earlier (x ∷ rest))
     ≡ option_or (latest_flow k (flows_after (earlier ++ x ∷ []) rest)) (if same_key (key_of x) k then Some (flow_of (record { first = x; others = members (earlier ++ x ∷ []) (key_of x) rest })) else None)
 unfolding latest_flow groups_after
 latest_cons k x rest earlier h = rw h refl
 
-latest_skip : (k : Key) (x : Sighting) (rest earlier : List Sighting) → begins earlier x ≡ false
+latest_skip : (k : FlowKey) (x : Sighting) (rest earlier : List Sighting) → begins earlier x ≡ false
     → latest_flow k (flows_after earlier (x ∷ rest)) ≡ latest_flow k (flows_after (earlier ++ x ∷ []) rest)
 unfolding groups_after
 latest_skip k x rest earlier h = rw h refl
 
 -- where a later flow of the key begins, the members before it stay
-members_closed : (k : Key) (q : Sighting) (rest earlier : List Sighting) → is_some (latest_flow k (flows_after earlier rest)) ≡ true
+members_closed : (k : FlowKey) (q : Sighting) (rest earlier : List Sighting) → is_some (latest_flow k (flows_after earlier rest)) ≡ true
     → members earlier k (rest ++ q ∷ []) ≡ members earlier k rest
 unfolding members latest_flow groups_after
 members_closed k q [] earlier h = let e : false ≡ true = h in cc
@@ -180,7 +180,7 @@ members_closed k q (x ∷ rest) earlier h = by (members_closed k q rest (earlier
             absurd (cc)
 
 -- else one of the key that begins no flow is the last of them
-members_joined : (k : Key) (q : Sighting) → has_key k q ≡ true → (rest earlier : List Sighting) → begins (earlier ++ rest) q ≡ false
+members_joined : (k : FlowKey) (q : Sighting) → has_key k q ≡ true → (rest earlier : List Sighting) → begins (earlier ++ rest) q ≡ false
     → latest_flow k (flows_after earlier rest) ≡ None → members earlier k (rest ++ q ∷ []) ≡ members earlier k rest ++ q ∷ []
 unfolding members latest_flow groups_after
 members_joined k q own [] earlier h none =
@@ -253,12 +253,12 @@ flows_joined q (x ∷ rest) earlier h = by (flows_joined q rest (earlier ++ x �
             → flows_after earlier ((x ∷ rest) ++ q ∷ []) ≡ join_latest q (flows_after earlier (x ∷ rest))
         inner (Some f) o true s =
             let key = same_key_eq (key_of x) (key_of q) s in
-            let there = ap (λ (k : Key). is_some (latest_flow k (flows_after (earlier ++ x ∷ []) rest))) key ∙ ap is_some o in
+            let there = ap (λ (k : FlowKey). is_some (latest_flow k (flows_after (earlier ++ x ∷ []) rest))) key ∙ ap is_some o in
             rw (e, members_closed (key_of x) q rest (earlier ++ x ∷ []) there, ih, o) refl
         inner (Some f) o false s = rw (e, members_other (key_of x) q (other false s) rest (earlier ++ x ∷ []), ih, o) refl
         inner None o true s =
             let key = same_key_eq (key_of x) (key_of q) s in
-            let none = ap (λ (k : Key). latest_flow k (flows_after (earlier ++ x ∷ []) rest)) key ∙ o in
+            let none = ap (λ (k : FlowKey). latest_flow k (flows_after (earlier ++ x ∷ []) rest)) key ∙ o in
             let whole = members_joined (key_of x) q (own s) rest (earlier ++ x ∷ []) later none in
             rw (e, whole, ih, join_none q (flows_after (earlier ++ x ∷ []) rest) o, o, s)
             (ap (λ (f : Flow). f ∷ flows_after (earlier ++ x ∷ []) rest) (flow_push x q (members (earlier ++ x ∷ []) (key_of x) rest)))
@@ -287,10 +287,10 @@ past_both : (a b p t : ℕ) → (nat_lt (a + p) t && nat_lt (b + p) t) ≡ nat_l
 past_both a b p t = grind (arith, nat_tests)
 
 -- the test with one packet more
-begins_push : (xs : List Sighting) (x q : Sighting) → begins (xs ++ x ∷ []) q ≡ (begins xs q && (not (same_key (key_of x) (key_of q)) || nat_lt (x.time + pause) q.time))
+begins_push : (xs : List Sighting) (x q : Sighting) → begins (xs ++ x ∷ []) q ≡ (begins xs q && (not (same_key (key_of x) (key_of q)) || nat_lt (x.time + idle_timeout) q.time))
 unfolding begins
-begins_push xs x q = list_all-append (λ (e : Sighting). not (has_key (key_of q) e) || nat_lt (e.time + pause) q.time) xs (x ∷ [])
-    ∙ ap (λ (b : Bool). list_all (λ (e : Sighting). not (has_key (key_of q) e) || nat_lt (e.time + pause) q.time) xs && b) (and_true (not (same_key (key_of x) (key_of q)) || nat_lt (x.time + pause) q.time))
+begins_push xs x q = list_all-append (λ (e : Sighting). not (has_key (key_of q) e) || nat_lt (e.time + idle_timeout) q.time) xs (x ∷ [])
+    ∙ ap (λ (b : Bool). list_all (λ (e : Sighting). not (has_key (key_of q) e) || nat_lt (e.time + idle_timeout) q.time) xs && b) (and_true (not (same_key (key_of x) (key_of q)) || nat_lt (x.time + idle_timeout) q.time))
 
 -- who comes after a packet that begins a flow begins one, if the packet isn't near
 begins_later : (xs : List Sighting) (x q : Sighting) → begins xs x ≡ true → key_of x ≡ key_of q → x.time ≤ q.time → begins xs q ≡ true
@@ -298,21 +298,21 @@ unfolding begins
 begins_later [] x q h same le = refl
 begins_later (e ∷ xs) x q h same le = and_both _ _ (by (has_key (key_of q) e) refl) (begins_later xs x q both.1 same le)
   where
-    both : ((not (has_key (key_of x) e) || nat_lt (e.time + pause) x.time) ≡ true) × (begins xs x ≡ true)
-    both = and_parts (not (has_key (key_of x) e) || nat_lt (e.time + pause) x.time) (begins xs x) h
+    both : ((not (has_key (key_of x) e) || nat_lt (e.time + idle_timeout) x.time) ≡ true) × (begins xs x ≡ true)
+    both = and_parts (not (has_key (key_of x) e) || nat_lt (e.time + idle_timeout) x.time) (begins xs x) h
 
-    by : (b : Bool) → has_key (key_of q) e ≡ b → (not (has_key (key_of q) e) || nat_lt (e.time + pause) q.time) ≡ true
+    by : (b : Bool) → has_key (key_of q) e ≡ b → (not (has_key (key_of q) e) || nat_lt (e.time + idle_timeout) q.time) ≡ true
     by false k = rw k refl
     by true k =
-        let own : has_key (key_of x) e ≡ true = ap (λ (l : Key). has_key l e) same ∙ k in
-        let near : nat_lt (e.time + pause) x.time ≡ true = rw own at both.0 in
-        rw k (later_still (e.time + pause) x.time q.time near le)
+        let own : has_key (key_of x) e ≡ true = ap (λ (l : FlowKey). has_key l e) same ∙ k in
+        let near : nat_lt (e.time + idle_timeout) x.time ≡ true = rw own at both.0 in
+        rw k (later_still (e.time + idle_timeout) x.time q.time near le)
 
 -- the last time of a flow that got a packet
 last_joined : (s : Sighting) (f : Flow) → (joined s f).last ≡ max f.last s.time
-last_joined s f = by (same_end s.source f.source) refl
+last_joined s f = by (same_endpoint s.source f.source) refl
   where
-    by : (b : Bool) → same_end s.source f.source ≡ b → (joined s f).last ≡ max f.last s.time
+    by : (b : Bool) → same_endpoint s.source f.source ≡ b → (joined s f).last ≡ max f.last s.time
     by true e = rw e refl
     by false e = rw e refl
 
@@ -321,7 +321,7 @@ tells_push : (xs : List Sighting) (x : Sighting) → Tells xs → Tells (xs ++ x
 tells_push xs x tells q = by (begins xs x) refl (same_key (key_of x) (key_of q)) refl
   where
     near : Bool
-    near = nat_lt (x.time + pause) q.time
+    near = nat_lt (x.time + idle_timeout) q.time
 
     by : (a : Bool) → begins xs x ≡ a → (b : Bool) → same_key (key_of x) (key_of q) ≡ b
         → begins (xs ++ x ∷ []) q ≡ option_map_or (is_over q.time) (latest_flow (key_of q) (flows_after [] (xs ++ x ∷ []))) true
@@ -338,26 +338,26 @@ tells_push xs x tells q = by (begins xs x) refl (same_key (key_of x) (key_of q))
     by true a true b =
         let latest : latest_flow (key_of q) (flows_after [] (xs ++ x ∷ [])) ≡ Some (begun x) =
         ap (latest_flow (key_of q)) (flows_begun x xs [] a) ∙ latest_push (key_of q) (flows_after [] xs) (begun x) ∙ rw b refl in
-        rw latest (begins_push xs x q ∙ rw b (after (nat_lt (x.time + pause) q.time) refl))
+        rw latest (begins_push xs x q ∙ rw b (after (nat_lt (x.time + idle_timeout) q.time) refl))
       where
-        after : (c : Bool) → nat_lt (x.time + pause) q.time ≡ c → (begins xs q && nat_lt (x.time + pause) q.time) ≡ nat_lt (x.time + pause) q.time
-        after true c = rw (c, begins_later xs x q a (same_key_eq (key_of x) (key_of q) b) (not_before x.time pause q.time c)) refl
+        after : (c : Bool) → nat_lt (x.time + idle_timeout) q.time ≡ c → (begins xs q && nat_lt (x.time + idle_timeout) q.time) ≡ nat_lt (x.time + idle_timeout) q.time
+        after true c = rw (c, begins_later xs x q a (same_key_eq (key_of x) (key_of q) b) (not_before x.time idle_timeout q.time c)) refl
         after false c = rw c (and_false (begins xs q))
     by false a true b =
         let key = same_key_eq (key_of x) (key_of q) b in
         let latest : latest_flow (key_of q) (flows_after [] (xs ++ x ∷ [])) ≡ option_map (joined x) (latest_flow (key_of q) (flows_after [] xs)) =
-        ap (latest_flow (key_of q)) (flows_joined x xs [] a) ∙ subst (λ (k : Key). latest_flow k (join_latest x (flows_after [] xs)) ≡ option_map (joined x) (latest_flow k (flows_after [] xs))) key (latest_join x (flows_after [] xs)) in
+        ap (latest_flow (key_of q)) (flows_joined x xs [] a) ∙ subst (λ (k : FlowKey). latest_flow k (join_latest x (flows_after [] xs)) ≡ option_map (joined x) (latest_flow k (flows_after [] xs))) key (latest_join x (flows_after [] xs)) in
         rw latest (begins_push xs x q ∙ rw b (inner (latest_flow (key_of q) (flows_after [] xs)) refl))
       where
         inner : (o : Option Flow) → latest_flow (key_of q) (flows_after [] xs) ≡ o
-            → (begins xs q && nat_lt (x.time + pause) q.time) ≡ option_map_or (is_over q.time) (option_map (joined x) (latest_flow (key_of q) (flows_after [] xs))) true
+            → (begins xs q && nat_lt (x.time + idle_timeout) q.time) ≡ option_map_or (is_over q.time) (option_map (joined x) (latest_flow (key_of q) (flows_after [] xs))) true
         inner None o =
-            let own = ap (λ (k : Key). latest_flow k (flows_after [] xs)) (same_key_eq (key_of x) (key_of q) b) ∙ o in
+            let own = ap (λ (k : FlowKey). latest_flow k (flows_after [] xs)) (same_key_eq (key_of x) (key_of q) b) ∙ o in
             let f : false ≡ true = sym a ∙ tells x ∙ rw own refl in
             absurd (cc)
         inner (Some f) o =
-            let early : begins xs q ≡ nat_lt (f.last + pause) q.time = tells q ∙ rw o refl in
-            rw (o, early, last_joined x f) (past_both f.last x.time pause q.time)
+            let early : begins xs q ≡ nat_lt (f.last + idle_timeout) q.time = tells q ∙ rw o refl in
+            rw (o, early, last_joined x f) (past_both f.last x.time idle_timeout q.time)
 
 tells_all : (rest xs : List Sighting) → Tells xs → Tells (xs ++ rest)
 tells_all [] xs tells = subst Tells (sym (append-nil xs)) tells

@@ -3,3 +3,4 @@ mod PlaceLemmas
 mod KeyLemmas
 mod GroupLemmas
 mod LayoutLemmas
+pub mod RowLemmas

@@ -4,12 +4,12 @@ use Rattle.pcap_flow.specs.Keys.{same_key}
 use Rattle.pcap_flow.specs.Sightings.{key_of}
 use Rattle.pcap_flow.specs.Steps.{flow_key, begun, joined, is_over, latest_flow, join_latest, with_sighting}
 use Rattle.pcap_flow.specs.Tracked.{latest_place, place_from}
-use Rattle.pcap_flow.specs.declared.key.Key.{Key}
+use Rattle.pcap_flow.specs.declared.key.FlowKey.{FlowKey}
 use Rattle.pcap_flow.specs.declared.flow.Flow.{Flow}
 use Rattle.pcap_flow.specs.declared.sighting.Sighting.{Sighting}
 
 -- where no flow of the key stands, there is none
-pub latest_none : (k : Key) (fs : List Flow) → latest_place k fs ≡ None → latest_flow k fs ≡ None
+pub latest_none : (k : FlowKey) (fs : List Flow) → latest_place k fs ≡ None → latest_flow k fs ≡ None
 unfolding latest_flow latest_place
 latest_none k [] h = refl
 latest_none k (f ∷ fs) h = by (latest_none k fs) (latest_place k fs) refl (same_key (flow_key f) k) refl
@@ -20,7 +20,7 @@ latest_none k (f ∷ fs) h = by (latest_none k fs) (latest_place k fs) refl (sam
     by ih None e false e' = rw (ih e, e') refl
 
 -- the latest flow is the one at the latest place
-pub latest_some : (k : Key) (fs : List Flow) (i : ℕ) → latest_place k fs ≡ Some i → (f : Flow) → slice_get fs i ≡ Some f → latest_flow k fs ≡ Some f
+pub latest_some : (k : FlowKey) (fs : List Flow) (i : ℕ) → latest_place k fs ≡ Some i → (f : Flow) → slice_get fs i ≡ Some f → latest_flow k fs ≡ Some f
 unfolding latest_flow latest_place
 latest_some k [] i h g at = cc
 latest_some k (f ∷ fs) i h g at = by (λ i h at. latest_some k fs i h g at) (latest_place k fs) refl (same_key (flow_key f) k) refl i h at
@@ -38,7 +38,7 @@ latest_some k (f ∷ fs) i h g at = by (λ i h at. latest_some k fs i h g at) (l
     by ih None e false e' i h at = let e0 : latest_place k (f ∷ fs) ≡ None = rw (e, e') refl in cc
 
 -- the latest place is one of the list's
-pub latest_within : (k : Key) (fs : List Flow) (i : ℕ) → latest_place k fs ≡ Some i → i < length fs
+pub latest_within : (k : FlowKey) (fs : List Flow) (i : ℕ) → latest_place k fs ≡ Some i → i < length fs
 unfolding latest_place
 latest_within k [] i h = cc
 latest_within k (f ∷ fs) i h = by (latest_within k fs) (latest_place k fs) refl (same_key (flow_key f) k) refl i h
@@ -77,7 +77,7 @@ join_set s (f ∷ fs) i h g at = by (λ i h at. join_set s fs i h g at) (latest_
     by ih None e false e' i h at = let e0 : latest_place (key_of s) (f ∷ fs) ≡ None = rw (e, e') refl in cc
 
 -- a new flow is the latest of its key, and of no other
-pub place_push : (k : Key) (fs : List Flow) (f : Flow) → latest_place k (fs ++ f ∷ []) ≡ (if same_key (flow_key f) k then Some (length fs) else latest_place k fs)
+pub place_push : (k : FlowKey) (fs : List Flow) (f : Flow) → latest_place k (fs ++ f ∷ []) ≡ (if same_key (flow_key f) k then Some (length fs) else latest_place k fs)
 unfolding latest_place
 place_push k [] f = by (same_key (flow_key f) k) refl
   where
@@ -91,17 +91,17 @@ place_push k (g ∷ fs) f = by (place_push k fs f) (same_key (flow_key f) k) ref
     by ih false e = rw (ih, e) refl
 
 -- a flow of the same key in a flow's place leaves the latest places
-pub place_set : (k : Key) (fs : List Flow) (i : ℕ) (f g : Flow) → slice_get fs i ≡ Some f → flow_key g ≡ flow_key f → latest_place k (set fs i g) ≡ latest_place k fs
+pub place_set : (k : FlowKey) (fs : List Flow) (i : ℕ) (f g : Flow) → slice_get fs i ≡ Some f → flow_key g ≡ flow_key f → latest_place k (set fs i g) ≡ latest_place k fs
 unfolding latest_place
 place_set k [] i f g at same = cc
 place_set k (x ∷ fs) zero f g at same =
     let one : x ≡ f = cc in
     let key : flow_key g ≡ flow_key x = same ∙ ap flow_key (sym one) in
-    ap (λ (l : Key). place_from (latest_place k fs) (same_key l k)) key
+    ap (λ (l : FlowKey). place_from (latest_place k fs) (same_key l k)) key
 place_set k (x ∷ fs) (suc i) f g at same = rw (place_set k fs i f g at same) refl
 
 -- the same, where the flow in that place has the key
-pub place_kept : (fs : List Flow) (i : ℕ) (g : Flow) → IsSomeAnd (slice_get fs i) (λ f. flow_key g ≡ flow_key f) → (k : Key) → latest_place k (set fs i g) ≡ latest_place k fs
+pub place_kept : (fs : List Flow) (i : ℕ) (g : Flow) → IsSomeAnd (slice_get fs i) (λ f. flow_key g ≡ flow_key f) → (k : FlowKey) → latest_place k (set fs i g) ≡ latest_place k fs
 place_kept fs i g h k = by (slice_get fs i) refl h
   where
     by : (o : Option Flow) → slice_get fs i ≡ o → IsSomeAnd o (λ f. flow_key g ≡ flow_key f) → latest_place k (set fs i g) ≡ latest_place k fs

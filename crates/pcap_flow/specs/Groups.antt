@@ -1,23 +1,23 @@
 -- Which packets share a flow, said of the whole list of packets.
 use Rattle.std.specs.Prelude.{ℕ, ◌+◌, Bool, not, max, ◌||◌, nat_lt, if◌then◌else◌, List, [], ◌∷◌, ◌++◌, map, fold, filter_map, sum_by, count_by}
 use Rattle.std.specs.List.{list_all}
-use Rattle.pcap_flow.specs.Keys.{same_end}
+use Rattle.pcap_flow.specs.Keys.{same_endpoint}
 use Rattle.pcap_flow.specs.Sightings.{sighting_of, key_of, has_key}
-use Rattle.pcap_flow.specs.declared.key.Key.{Key}
+use Rattle.pcap_flow.specs.declared.key.FlowKey.{FlowKey}
 use Rattle.pcap_flow.specs.declared.packet.Packet.{Packet}
 use Rattle.pcap_flow.specs.declared.sighting.Sighting.{Sighting}
 use Rattle.pcap_flow.specs.declared.flow.Flow.{Flow}
 
 -- 60 seconds in nanoseconds
-abbrev pub pause : ℕ
-pause = 60_000_000_000
+abbrev pub idle_timeout : ℕ
+idle_timeout = 60_000_000_000
 
 -- a packet begins a flow where its time is more than 60 seconds above that of every earlier packet of its ends and protocol
 unfoldable pub begins : List Sighting → Sighting → Bool
-begins earlier s = list_all (λ e. not (has_key (key_of s) e) || nat_lt (e.time + pause) s.time) earlier
+begins earlier s = list_all (λ e. not (has_key (key_of s) e) || nat_lt (e.time + idle_timeout) s.time) earlier
 
 -- of the packets that follow `earlier`, those of this key before the next one that begins a flow
-unfoldable pub members : List Sighting → Key → List Sighting → List Sighting
+unfoldable pub members : List Sighting → FlowKey → List Sighting → List Sighting
 members earlier k [] = []
 members earlier k (s ∷ rest) =
     if has_key k s
@@ -44,7 +44,7 @@ bytes_if counts s = if counts then s.original else 0
 -- the counts of a flow's packets, the originator being the source of the first
 abbrev pub flow_of : Group → Flow
 flow_of g =
-    let from_originator = λ (s : Sighting). same_end s.source g.first.source in
+    let from_originator = λ (s : Sighting). same_endpoint s.source g.first.source in
     let all = g.first ∷ g.others in
     record {
       source = g.first.source;

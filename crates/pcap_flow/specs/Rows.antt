@@ -1,12 +1,14 @@
--- The rows of packets and flows, and the columns that they stand in.
+-- The rows of packets and flows, and the headings of their layouts. No row tells the transport of a port: the protocol is
+-- a column of its own.
 use Rattle.std.specs.Prelude.{ℕ, pos, ◌+◌, ◌-◌, ◌/◌, ◌%◌, ◌==◌, nat_lt, if◌then◌else◌, List, [], ◌∷◌, map, Option, Some, None, codes}
+use Rattle.vast_value.specs.declared.kind.Elem.{Elem}
 use Rattle.vast_value.specs.declared.kind.Elem.TheVariants as elem
-use Rattle.vast_value.specs.declared.kind.Kind.{Kind}
 use Rattle.vast_value.specs.declared.kind.Kind.TheVariants.{One as OneOf}
 use Rattle.vast_value.specs.declared.value.Value.TheVariants as value
 use Rattle.vast_value.specs.declared.cell.Cell.{Cell}
 use Rattle.vast_value.specs.declared.cell.Cell.TheVariants.{Unset, One}
-use Rattle.vast_value.specs.declared.column.Column.{Column}
+use Rattle.vast_value.specs.declared.transport.Transport.TheVariants.{Unknown}
+use Rattle.vast_value.specs.Headings.{Field, Heading}
 use Rattle.pcap_flow.specs.Groups.{flows_of}
 use Rattle.pcap_flow.specs.declared.packet.Packet.{Packet}
 use Rattle.pcap_flow.specs.declared.flow.Flow.{Flow}
@@ -33,7 +35,7 @@ address_cell (Some address) = One (value.Addr address)
 
 abbrev pub port_cell : Option ℕ → Cell
 port_cell None = Unset
-port_cell (Some port) = One (value.Port port)
+port_cell (Some port) = One (value.Port port Unknown)
 
 abbrev pub protocol_cell : Option ℕ → Cell
 protocol_cell None = Unset
@@ -48,8 +50,8 @@ packet_row p =
 abbrev pub flow_row : Flow → List Cell
 flow_row f =
     One (value.Time (pos f.first))
-    ∷ One (value.Addr f.source.address) ∷ One (value.Port f.source.port)
-    ∷ One (value.Addr f.target.address) ∷ One (value.Port f.target.port)
+    ∷ One (value.Addr f.source.address) ∷ One (value.Port f.source.port Unknown)
+    ∷ One (value.Addr f.target.address) ∷ One (value.Port f.target.port Unknown)
     ∷ One (value.Name (protocol_name f.protocol))
     ∷ One (value.Span (pos (f.last - f.first)))
     ∷ One (value.Count f.orig_packets) ∷ One (value.Count f.orig_bytes)
@@ -59,22 +61,26 @@ flow_row f =
 abbrev pub flow_rows_of : List Packet → List (List Cell)
 flow_rows_of packets = map flow_row (flows_of packets)
 
--- the names and kinds of columns
-abbrev pub named : List Column → List (List ℕ × Kind)
-named columns = map (λ (c : Column). (c.name, c.kind)) columns
+-- a column of single values
+abbrev pub field : List ℕ → Elem → Field
+field name e = record { name = name; kind = OneOf e }
 
-abbrev pub packet_columns : List (List ℕ × Kind)
-packet_columns =
-    (codes "ts", OneOf elem.Time) ∷ (codes "caplen", OneOf elem.Count) ∷ (codes "origlen", OneOf elem.Count)
-    ∷ (codes "src", OneOf elem.Addr) ∷ (codes "sport", OneOf elem.Port)
-    ∷ (codes "dst", OneOf elem.Addr) ∷ (codes "dport", OneOf elem.Port)
-    ∷ (codes "proto", OneOf elem.Name) ∷ []
+abbrev pub packet_heading : Heading
+packet_heading = record {
+  path = codes "packet";
+  fields = field (codes "ts") elem.Time ∷ field (codes "caplen") elem.Count ∷ field (codes "origlen") elem.Count
+      ∷ field (codes "src") elem.Addr ∷ field (codes "sport") elem.Port
+      ∷ field (codes "dst") elem.Addr ∷ field (codes "dport") elem.Port
+      ∷ field (codes "proto") elem.Name ∷ [];
+}
 
-abbrev pub flow_columns : List (List ℕ × Kind)
-flow_columns =
-    (codes "ts", OneOf elem.Time)
-    ∷ (codes "id.orig_h", OneOf elem.Addr) ∷ (codes "id.orig_p", OneOf elem.Port)
-    ∷ (codes "id.resp_h", OneOf elem.Addr) ∷ (codes "id.resp_p", OneOf elem.Port)
-    ∷ (codes "proto", OneOf elem.Name) ∷ (codes "duration", OneOf elem.Span)
-    ∷ (codes "orig_pkts", OneOf elem.Count) ∷ (codes "orig_bytes", OneOf elem.Count)
-    ∷ (codes "resp_pkts", OneOf elem.Count) ∷ (codes "resp_bytes", OneOf elem.Count) ∷ []
+abbrev pub flow_heading : Heading
+flow_heading = record {
+  path = codes "flow";
+  fields = field (codes "ts") elem.Time
+      ∷ field (codes "id.orig_h") elem.Addr ∷ field (codes "id.orig_p") elem.Port
+      ∷ field (codes "id.resp_h") elem.Addr ∷ field (codes "id.resp_p") elem.Port
+      ∷ field (codes "proto") elem.Name ∷ field (codes "duration") elem.Span
+      ∷ field (codes "orig_pkts") elem.Count ∷ field (codes "orig_bytes") elem.Count
+      ∷ field (codes "resp_pkts") elem.Count ∷ field (codes "resp_bytes") elem.Count ∷ [];
+}

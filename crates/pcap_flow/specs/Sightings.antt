@@ -1,6 +1,6 @@
 -- Packets that belong to a flow.
 use Rattle.std.specs.Prelude.{ℕ, ℤ, pos, negsuc, Bool, Option, Some, None}
-use Rattle.pcap_flow.specs.declared.key.Key.{Key}
+use Rattle.pcap_flow.specs.declared.key.FlowKey.{FlowKey}
 use Rattle.pcap_flow.specs.declared.packet.Packet.{Packet}
 use Rattle.pcap_flow.specs.declared.sighting.Sighting.{Sighting}
 use Rattle.pcap_flow.specs.Keys.{key_between, same_key}
@@ -26,8 +26,8 @@ abbrev pub sighting_of : Packet → Option Sighting
 sighting_of p =
     with_all p.parts.source p.parts.source_port p.parts.target p.parts.target_port p.parts.protocol (nanoseconds p.time) p.original
 
-abbrev pub key_of : Sighting → Key
+abbrev pub key_of : Sighting → FlowKey
 key_of s = key_between s.source s.target s.protocol
 
-abbrev pub has_key : Key → Sighting → Bool
+abbrev pub has_key : FlowKey → Sighting → Bool
 has_key k s = same_key (key_of s) k

@@ -1,15 +1,15 @@
 -- Flows packet by packet.
 use Rattle.std.specs.Prelude.{ℕ, ◌+◌, ◌-◌, ◌*◌, ◌^◌, Bool, true, ◌&&◌, max, nat_lt, nat_le, if◌then◌else◌, List, [], ◌∷◌, ◌++◌, Option, Some, None, is_some}
 use Rattle.std.specs.Option.{option_map_or, option_or}
-use Rattle.pcap_flow.specs.Keys.{same_end, key_between, same_key}
+use Rattle.pcap_flow.specs.Keys.{same_endpoint, key_between, same_key}
 use Rattle.pcap_flow.specs.Sightings.{sighting_of, key_of}
-use Rattle.pcap_flow.specs.Groups.{pause}
-use Rattle.pcap_flow.specs.declared.key.Key.{Key}
+use Rattle.pcap_flow.specs.Groups.{idle_timeout}
+use Rattle.pcap_flow.specs.declared.key.FlowKey.{FlowKey}
 use Rattle.pcap_flow.specs.declared.packet.Packet.{Packet}
 use Rattle.pcap_flow.specs.declared.sighting.Sighting.{Sighting}
 use Rattle.pcap_flow.specs.declared.flow.Flow.{Flow}
 
-abbrev pub flow_key : Flow → Key
+abbrev pub flow_key : Flow → FlowKey
 flow_key f = key_between f.source f.target f.protocol
 
 -- a flow of one packet
@@ -29,16 +29,16 @@ begun s = record {
 -- the flow with one more packet
 abbrev pub joined : Sighting → Flow → Flow
 joined s f =
-    if same_end s.source f.source
+    if same_endpoint s.source f.source
     then record f { last = max f.last s.time; orig_packets = f.orig_packets + 1; orig_bytes = f.orig_bytes + s.original }
     else record f { last = max f.last s.time; resp_packets = f.resp_packets + 1; resp_bytes = f.resp_bytes + s.original }
 
 -- a packet of this time comes more than 60 seconds after the flow
 abbrev pub is_over : ℕ → Flow → Bool
-is_over time f = nat_lt (f.last + pause) time
+is_over time f = nat_lt (f.last + idle_timeout) time
 
 -- the last of the flows that has the key
-unfoldable pub latest_flow : Key → List Flow → Option Flow
+unfoldable pub latest_flow : FlowKey → List Flow → Option Flow
 latest_flow k [] = None
 latest_flow k (f ∷ fs) = option_or (latest_flow k fs) (if same_key (flow_key f) k then Some f else None)
 

@@ -2,7 +2,7 @@
 use Rattle.std.specs.Prelude.{ℕ, suc, Bool, true, false, List, [], ◌∷◌, Option, Some, None}
 use Rattle.pcap_flow.specs.Keys.{same_key}
 use Rattle.pcap_flow.specs.Steps.{flow_key}
-use Rattle.pcap_flow.specs.declared.key.Key.{Key}
+use Rattle.pcap_flow.specs.declared.key.FlowKey.{FlowKey}
 use Rattle.pcap_flow.specs.declared.flow.Flow.{Flow}
 
 -- the flows in the order of their first packets, and how many packets were added
@@ -17,6 +17,6 @@ place_from None true = Some 0
 place_from None false = None
 
 -- where the last flow of the key stands
-unfoldable pub latest_place : Key → List Flow → Option ℕ
+unfoldable pub latest_place : FlowKey → List Flow → Option ℕ
 latest_place k [] = None
 latest_place k (f ∷ fs) = place_from (latest_place k fs) (same_key (flow_key f) k)

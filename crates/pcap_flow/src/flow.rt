@@ -2,17 +2,17 @@
 ghost use Rattle.std.specs.Prelude.{◌≡◌, ◌≤◌, ◌<◌, ◌^◌, ◌+◌, ◌-◌, ◌*◌, ℕ, IsTrue};
 ghost use Rattle.pcap_flow.specs.Steps.{begun, joined, is_over, flow_key, is_bounded};
 
-use crate::key::{End, Key};
+use crate::key::{Endpoint, FlowKey};
 use crate::sighting::Sighting;
 
 /// A packet of the same ends joins a flow unless it comes more than so many nanoseconds after it.
-const PAUSE: u64 = 60_000_000_000;
+const IDLE_TIMEOUT: u64 = 60_000_000_000;
 
 /// The packets of one flow, counted. Its originator is the source of its first packet.
 #[derive(Clone, Copy, Debug, PartialEq, Eq)]
 pub struct Flow {
-    pub source: End,
-    pub target: End,
+    pub source: Endpoint,
+    pub target: Endpoint,
     pub protocol: u8,
     /// The time of the first packet, in nanoseconds since 1970-01-01T00:00:00Z.
     pub first: u64,
@@ -73,6 +73,6 @@ impl Flow {
         requires { self.last < 2 ^ 63 }
         ensures { result ≡ is_over time self }
     {
-        self.last + PAUSE < time
+        self.last + IDLE_TIMEOUT < time
     }
 }

@@ -1,11 +1,13 @@
 //! The flows of a list of packets, packet by packet.
 ghost use Rattle.std.specs.Prelude.{◌≡◌, ◌≤◌, ◌<◌, ◌^◌, ◌+◌, pos, ◌≤ℤ◌, [], ◌∷◌, ◌++◌, length, map, slice_get, slice_set, IsTrue, IsSomeAnd, OnOk, OnErr, IfOk};
+ghost use Rattle.std.specs.List.{list_all};
+ghost use Rattle.vast_value.specs.Headings.{fits_fields};
 ghost use Rattle.pcap_flow.specs.Steps.{with_packet, with_sighting, begun, is_bounded, flow_key};
-ghost use Rattle.pcap_flow.specs.Rows.{flow_row};
+ghost use Rattle.pcap_flow.specs.Rows.{flow_row, flow_heading};
 ghost use Rattle.pcap_flow.specs.Tracked.{latest_place};
 
 use crate::flow::Flow;
-use crate::key::Key;
+use crate::key::FlowKey;
 use crate::packet::Packet;
 use crate::rows::{Rows, flow_rows};
 use crate::sighting::Sighting;
@@ -19,7 +21,7 @@ use std::marker::Model;
 pub struct Flows {
     flows: Vec<Flow>,
     /// Where the latest flow of each key stands in `flows`.
-    latest: IndexMap<Key, usize>,
+    latest: IndexMap<FlowKey, usize>,
     added: u64,
 }
 
@@ -27,7 +29,7 @@ impl Model for Flows {
     ghost use Rattle.std.specs.Prelude.{◌≡◌, true};
     ghost use Rattle.std.specs.List.{list_all};
     ghost use Rattle.indexmap.specs.IndexMap.{get};
-    ghost use Rattle.pcap_flow.specs.declared.key.Key.{Key};
+    ghost use Rattle.pcap_flow.specs.declared.key.FlowKey.{FlowKey};
     ghost use Rattle.pcap_flow.specs.Keys.{same_key};
     ghost use Rattle.pcap_flow.specs.Steps.{is_bounded};
     ghost use Rattle.pcap_flow.specs.Tracked.{Tracked, latest_place};
@@ -36,7 +38,7 @@ impl Model for Flows {
 
     ghost view = { λ s. record { flows = s.flows.items; added = s.added } };
 
-    ghost invariant = { λ s. ((k : Key) → get same_key s.latest k ≡ latest_place k s.flows.items) × (list_all (is_bounded s.added) s.flows.items ≡ true) };
+    ghost invariant = { λ s. ((k : FlowKey) → get same_key s.latest k ≡ latest_place k s.flows.items) × (list_all (is_bounded s.added) s.flows.items ≡ true) };
 }
 
 impl Flows {
@@ -73,7 +75,8 @@ impl Flows {
     /// [`crate::flow_layout`].
     #[tactic(auto, using(crate::proofs::FlowLemmas::all_timed))]
     pub fn finish(self, alloc: Global) -> Result<Rows, AllocError>
-        ensures { IfOk result (λ rows. rows ≡ map flow_row self.flows) }
+        ensures value { IfOk result (λ rows. rows ≡ map flow_row self.flows) }
+        ensures fits { IfOk result (λ rows. IsTrue (list_all (fits_fields flow_heading.fields) rows)) }
     {
         flow_rows(alloc, self.flows.as_slice())
     }
@@ -97,7 +100,7 @@ impl Flows {
     }
 
     /// Where the latest flow of the key stands.
-    fn place(&self, key: &Key) -> Option<usize>
+    fn place(&self, key: &FlowKey) -> Option<usize>
         ensures { result ≡ latest_place key.now self.now.flows }
     {
         self.latest.get(key).copied()

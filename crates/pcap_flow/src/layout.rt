@@ -1,16 +1,15 @@
 //! The layouts of packets and flows.
-ghost use Rattle.std.specs.Prelude.{◌≡◌, ◌≤◌, ◌^◌, ◌++◌, ◌∷◌, [], None, length, codes, IfOk, OnOk};
-ghost use Rattle.vast_value.specs.declared.kind.Kind.TheVariants.{One as OneOf};
+ghost use Rattle.std.specs.Prelude.{◌≡◌, ◌≤◌, ◌^◌, ◌++◌, ◌∷◌, [], None, length, map, IfOk, OnOk};
+ghost use Rattle.vast_value.specs.Headings.{heading_of, field_of};
 ghost use Rattle.vast_value.specs.Layouts.{layout_fault};
-ghost use Rattle.pcap_flow.specs.Rows.{named, packet_columns, flow_columns};
+ghost use Rattle.pcap_flow.specs.Rows.{field, packet_heading, flow_heading};
 
 use std::alloc::{AllocError, Global};
 use vast_value::{Bytes, Column, Columns, Elem, Kind, Layout};
 
 /// The layout `packet`: the columns of [`crate::packet_row`].
 pub fn packet_layout(alloc: Global) -> Result<Layout, AllocError>
-    ensures path { IfOk result (λ layout. layout.path ≡ codes "packet") }
-    ensures columns { IfOk result (λ layout. named layout.columns ≡ packet_columns) }
+    ensures { IfOk result (λ layout. heading_of layout ≡ packet_heading) }
 {
     let path = Bytes::copy(alloc, b"packet")?;
     let columns = packet_columns(alloc)?;
@@ -19,8 +18,7 @@ pub fn packet_layout(alloc: Global) -> Result<Layout, AllocError>
 
 /// The layout `flow`: the columns of the rows of [`crate::Flows::finish`].
 pub fn flow_layout(alloc: Global) -> Result<Layout, AllocError>
-    ensures path { IfOk result (λ layout. layout.path ≡ codes "flow") }
-    ensures columns { IfOk result (λ layout. named layout.columns ≡ flow_columns) }
+    ensures { IfOk result (λ layout. heading_of layout ≡ flow_heading) }
 {
     let path = Bytes::copy(alloc, b"flow")?;
     let columns = flow_columns(alloc)?;
@@ -39,7 +37,7 @@ fn layout(path: Bytes, columns: Columns) -> Layout
 }
 
 fn packet_columns(alloc: Global) -> Result<Columns, AllocError>
-    ensures { IfOk result (λ columns. named columns ≡ packet_columns) }
+    ensures { IfOk result (λ columns. map field_of columns ≡ packet_heading.fields) }
 {
     let mut columns = Columns::with_capacity(alloc, 8)?;
     add(alloc, &mut columns, b"ts", Elem::Time)?;
@@ -54,7 +52,7 @@ fn packet_columns(alloc: Global) -> Result<Columns, AllocError>
 }
 
 fn flow_columns(alloc: Global) -> Result<Columns, AllocError>
-    ensures { IfOk result (λ columns. named columns ≡ flow_columns) }
+    ensures { IfOk result (λ columns. map field_of columns ≡ flow_heading.fields) }
 {
     let mut columns = Columns::with_capacity(alloc, 11)?;
     add(alloc, &mut columns, b"ts", Elem::Time)?;
@@ -71,10 +69,10 @@ fn flow_columns(alloc: Global) -> Result<Columns, AllocError>
     Ok(columns)
 }
 
-#[tactic(auto, using(crate::proofs::LayoutLemmas::named_push))]
+#[tactic(auto, using(crate::proofs::LayoutLemmas::fields_push))]
 fn add(alloc: Global, columns: &mut Columns, name: &[u8], elem: Elem) -> Result<(), AllocError>
     requires { length name.now ≤ 2 ^ 24 }
-    ensures { OnOk result (named columns.new ≡ named columns.old ++ (name.now, OneOf elem) ∷ []) }
+    ensures { OnOk result (map field_of columns.new ≡ map field_of columns.old ++ field name.now elem ∷ []) }
 {
     let name = Bytes::copy(alloc, name)?;
     columns.push(Column {

@@ -2,14 +2,14 @@
 ghost use Rattle.std.specs.Prelude.{◌≡◌, pos, ◌≤ℤ◌, ◌<◌, ◌^◌, IfSome};
 ghost use Rattle.pcap_flow.specs.Sightings.{sighting_of, key_of};
 
-use crate::key::{End, Key};
+use crate::key::{Endpoint, FlowKey};
 use crate::packet::Packet;
 
 /// A packet with all its parts.
 #[derive(Clone, Copy, Debug, PartialEq, Eq)]
 pub struct Sighting {
-    pub source: End,
-    pub target: End,
+    pub source: Endpoint,
+    pub target: Endpoint,
     pub protocol: u8,
     /// Nanoseconds since 1970-01-01T00:00:00Z.
     pub time: u64,
@@ -25,11 +25,11 @@ impl Sighting {
         ensures time { IfSome result (λ sighting. sighting.time < 2 ^ 63) }
     {
         let parts = packet.parts;
-        let source = End {
+        let source = Endpoint {
             address: parts.source?,
             port: parts.source_port?,
         };
-        let target = End {
+        let target = Endpoint {
             address: parts.target?,
             port: parts.target_port?,
         };
@@ -42,9 +42,9 @@ impl Sighting {
         })
     }
 
-    pub fn key(self) -> Key
+    pub fn key(self) -> FlowKey
         ensures { result ≡ key_of self }
     {
-        Key::between(self.source, self.target, self.protocol)
+        FlowKey::between(self.source, self.target, self.protocol)
     }
 }

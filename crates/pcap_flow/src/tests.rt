@@ -39,7 +39,7 @@ fn number(row: &Row, column: usize) -> Option<u64> {
         Some(Cell::One(Value::Count(count))) => Some(*count),
         Some(Cell::One(Value::Span(span))) => u64::try_from(*span).ok(),
         Some(Cell::One(Value::Time(time))) => u64::try_from(*time).ok(),
-        Some(Cell::One(Value::Port(port))) => Some(u64::from(*port)),
+        Some(Cell::One(Value::Port { number, .. })) => Some(u64::from(*number)),
         _ => None,
     }
 }

@@ -3,7 +3,7 @@ use Rattle.std.proofs.Common.{◌≡◌, ◌<◌, ◌≤◌, ◌-◌, ℕ, zero,
 use Rattle.std.proofs.lemmas.Bool.Decides.{nat_tests}
 use Rattle.pcap_packet.specs.Headers.{carried_behind, header_length, is_further, is_later_fragment, needed, nothing_carried, portless, reached}
 
--- a protocol that is no further header is reached at once
+-- a protocol that is no extension header is reached at once
 pub behind_reached : (most next : ℕ) (rest : List ℕ) → is_further next ≡ false → carried_behind most next rest ≡ reached next rest
 unfolding carried_behind
 behind_reached zero next rest h = rw h refl

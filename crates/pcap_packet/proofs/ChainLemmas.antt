@@ -1,4 +1,4 @@
--- `carried_behind` against chains of further headers.
+-- `carried_behind` against chains of extension headers.
 use Rattle.std.proofs.Common.{◌≡◌, ◌≤◌, ◌<◌, ◌-◌, ℕ, zero, suc, List, drop, slice_index, arith, refl, ap, ◌∙◌}
 use Rattle.pcap_packet.specs.Headers.{carried_behind, header_length}
 use Rattle.pcap_packet.specs.Chains.{LeadsTo, EightAreFollowed, NoNinthIsFollowed, FragmentEnds}

@@ -1,8 +1,8 @@
--- Chains of further headers, in the words of the format.
+-- Chains of extension headers, in the words of the format.
 use Rattle.std.specs.Prelude.{◌≡◌, ◌≤◌, ℕ, zero, suc, true, false, List, length, drop, slice_index}
 use Rattle.pcap_packet.specs.Headers.{carried_behind, header_length, is_further, is_later_fragment, needed, nothing_carried, portless, reached}
 
--- the bytes begin with so many further headers, the first of number `next`; each is captured as far as it must be,
+-- the bytes begin with so many extension headers, the first of number `next`; each is captured as far as it must be,
 -- none is a later fragment's, and `content` of number `protocol` stands behind them
 abbrev pub LeadsTo : ℕ → ℕ → List ℕ → ℕ → List ℕ → Type 0
 LeadsTo zero next bytes protocol content = (next ≡ protocol) × (bytes ≡ content)
@@ -10,7 +10,7 @@ LeadsTo (suc count) next bytes protocol content =
     (is_further next ≡ true) × (needed next ≤ length bytes) × (is_later_fragment next bytes ≡ false)
     × LeadsTo count (slice_index bytes 0) (drop (header_length next bytes) bytes) protocol content
 
--- what stands behind at most eight further headers is the protocol, if it is none of these itself
+-- what stands behind at most eight extension headers is the protocol, if it is none of these itself
 abbrev pub EightAreFollowed : Type 0
 EightAreFollowed =
     (count next : ℕ) (bytes : List ℕ) (protocol : ℕ) (content : List ℕ)

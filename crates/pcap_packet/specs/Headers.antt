@@ -1,4 +1,4 @@
--- What an IP packet carries: its protocol and ports, and the further headers of IPv6.
+-- What an IP packet carries: its protocol and ports, and the extension headers of IPv6.
 use Rattle.std.specs.Prelude.{ℕ, zero, suc, ◌+◌, ◌*◌, ◌/◌, ◌==◌, ◌||◌, ◌&&◌, Bool, false, not, nat_lt, if◌then◌else◌, List, length, drop, slice_index, Option, Some, None}
 use Rattle.pcap_packet.specs.Numbers.{number_at}
 use Rattle.pcap_packet.specs.declared.parts.Ports.{Ports}
@@ -26,7 +26,7 @@ nothing_carried = record { protocol = None; ports = None }
 abbrev pub is_further : ℕ → Bool
 is_further next = next == 0 || next == 43 || next == 44 || next == 60
 
--- how many bytes of a further header must be captured
+-- how many bytes of a extension header must be captured
 abbrev pub needed : ℕ → ℕ
 needed next = if next == 44 then 8 else 2
 
@@ -45,7 +45,7 @@ carried_through follow next bytes =
     else (if is_later_fragment next bytes then portless (slice_index bytes 0)
     else follow (slice_index bytes 0) (drop (header_length next bytes) bytes))
 
--- what stands behind the further headers, of which at most `most` are followed
+-- what stands behind the extension headers, of which at most `most` are followed
 unfoldable pub carried_behind : ℕ → ℕ → List ℕ → Carried
 carried_behind zero next bytes = if is_further next then nothing_carried else reached next bytes
 carried_behind (suc most) next bytes =

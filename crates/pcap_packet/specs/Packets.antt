@@ -32,7 +32,7 @@ parts_of_v4 bytes =
 abbrev pub is_v6_head : List ℕ → Bool
 is_v6_head bytes = if nat_lt (length bytes) 40 then false else slice_index bytes 0 / 16 == 6
 
--- at most eight further headers are followed
+-- at most eight extension headers are followed
 unfoldable pub parts_of_v6 : List ℕ → Parts
 parts_of_v6 bytes =
     if is_v6_head bytes

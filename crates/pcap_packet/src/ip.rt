@@ -103,7 +103,7 @@ fn is_v6_head(bytes: &[u8]) -> bool
     bytes[0] / 16 == 6
 }
 
-/// What stands behind the further headers of IPv6.
+/// What stands behind the extension headers of IPv6.
 fn carried_behind(first: u8, bytes: &[u8]) -> Carried
     ensures { result ≡ carried_behind 8 first bytes.now }
 {
@@ -138,7 +138,7 @@ fn is_further(next: u8) -> bool
     next == HOP_BY_HOP || next == ROUTING || next == FRAGMENT || next == DESTINATION_OPTIONS
 }
 
-/// How many bytes of a further header must be captured for it to be followed.
+/// How many bytes of a extension header must be captured for it to be followed.
 fn needed(next: u8) -> usize
     ensures { result ≡ needed next }
 {

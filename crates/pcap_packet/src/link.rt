@@ -22,7 +22,7 @@ const IPV6: u16 = 0x86dd;
 /// captured bytes are `bytes`.
 ///
 /// Any bytes have an answer: a part that isn't captured, or that the packet doesn't have, is unset. At
-/// most two 802.1Q tags and eight further headers of IPv6 are followed. Ports are those of TCP and UDP,
+/// most two 802.1Q tags and eight extension headers of IPv6 are followed. Ports are those of TCP and UDP,
 /// and only of a first fragment. Lengths of the packet and its payload aren't looked at.
 pub fn decode(link: u16, bytes: &[u8]) -> Parts
     ensures { result ≡ parts_of link bytes.now }
@@ -52,7 +52,7 @@ fn parts_of_framed(frame: &[u8]) -> Parts
     }
 }
 
-/// The frame behind its first tag, or itself where it begins with none.
+/// The frame behind its first VLAN tag, or itself where it begins with none.
 fn untagged(frame: &[u8]) -> &[u8]
     ensures { result.now ≡ untagged frame.now }
 {

@@ -8,81 +8,76 @@ use Rattle.vast_io.specs.Causes.{Rose}
 use Rattle.zeek_log.specs.declared.step.ZeekEnd.{ZeekEnd}
 use Rattle.zeek_log.specs.declared.step.ZeekEnd.TheVariants as end
 use Rattle.zeek_log.specs.Steps.{Steps, steps_of_source}
-use Rattle.zeek_log.specs.Taking.{most_bytes}
+use Rattle.source_block.specs.Holding.{most_bytes}
 use Rattle.vast.specs.declared.status.Status.{Status}
 use Rattle.vast.specs.declared.status.Status.TheVariants as status
-use Rattle.vast.specs.Causes.{TellsText, TellsOf, TellsScan, TellsCommand, IsRefusal, IsRefused, Refuses, SaysUnopened, SaysRefused, SaysEarly, Says, WasOpened, IsExpr, IsSound, IsWhole, HasWhole, Completes, Does, IsOfFile}
+use Rattle.vast.specs.Causes.{TellsText, TellsOf, TellsSome, IsOfReport, ReadsWell, LeavesNothing, SinkStands, IsRefusal, IsRefused, Refuses, Outside, Rest, Outcome, Writes, Stands, StandsBy, SaysUnopened, SaysRefused, SaysEarly, WasOpened, IsOfCommand, IsOfFile, TellsFile, TellsScan, TellsCommand, ReportsFile, bytes_for, IsExpr, IsSound, IsWhole, IsDone, Completes, Does}
 use Rattle.vast.specs.Texts.{scan_text, check_text, usage_line}
 use Rattle.vast.specs.Words.{Wanted, Scan, Check, file_of}
 use Rattle.vast.proofs.GoingLemmas.{below_most, below_bound}
 
-module _ {S : Type 0} (left_of : S → Option (List ℕ)) (faults_of : S → ℕ) (bytes_of : List ℕ → Option (List ℕ)) (o o' w w' : ℕ) (before now : Option (List ℕ)) where
-  abbrev DoesSo : Option Wanted → Status → Option S → Type 0
-  DoesSo command s rest = Does left_of faults_of command bytes_of o o' w w' before now s rest
+module _ (before now : Outside) where
+  abbrev Unopened : Status → Outcome
+  Unopened s = record { status = s; source = None }
 
   -- ---- where nothing was opened
 
-  usage_so : Says w w' before now usage_line → DoesSo None status.Usage None
-  usage_so says = record {
+  pub does_usage : now.opens ≡ before.opens → Writes before now usage_line → Does None before now (record { status = status.Usage; source = None })
+  does_usage same says = record {
+    known = tt;
     usage = record { only = λ _. refl; always = λ _ _. refl };
     refused = record { only = λ h. cc; always = λ h. absurd h };
     opening = λ h. cc;
     write = λ h. cc;
     read = λ h. cc;
+    stands = same;
     opened = λ h. cc;
     scanned = tt;
     early = says;
   }
 
-  memory_so : (command : Option Wanted) → now ≡ before → DoesSo command status.Memory None
-  memory_so command same = record {
+  pub does_memory : (command : Option Wanted) → now.written ≡ before.written → Stands before now → Does command before now (record { status = status.Memory; source = None })
+  does_memory command same stands = record {
+    known = tt;
     usage = record { only = λ h. cc; always = λ _ h. absurd (h refl) };
     refused = record { only = λ h. cc; always = λ _ h. absurd (h refl) };
     opening = λ h. cc;
     write = λ h. cc;
     read = λ h. cc;
+    stands = stands;
     opened = tt;
     scanned = tt;
     early = same;
   }
 
-  refused_so : (file query : List ℕ) (fault : QueryFault) → parsed query ≡ Err fault → SaysRefused (Err fault) w w' before now → DoesSo (Some (Scan file query)) status.QueryRefused None
-  refused_so file query fault is says = record {
+  refused_so : (file query : List ℕ) (fault : QueryFault) → parsed query ≡ Err fault → now.opens ≡ before.opens → SaysRefused (Err fault) before now
+      → Does (Some (Scan file query)) before now (Unopened status.QueryRefused)
+  refused_so file query fault is same says = record {
+    known = tt;
     usage = record { only = λ h. cc; always = λ h _. cc };
     refused = record { only = λ _. subst IsRefusal (sym is) tt; always = λ _ _. refl };
     opening = λ h. cc;
     write = λ h. cc;
     read = λ h. cc;
+    stands = same;
     opened = λ h. cc;
     scanned = tt;
-    early = subst (λ (r : Result Expr QueryFault). SaysRefused r w w' before now) (sym is) says;
+    early = subst (λ (r : Result Expr QueryFault). SaysRefused r before now) (sym is) says;
   }
 
-  at : (command : Option Wanted) (s t : Status) (rest other : Option S) → s ≡ t → rest ≡ other → DoesSo command t other → DoesSo command s rest
-  at command s t rest other is empty does = subst (λ (x : Status). DoesSo command x rest) (sym is) (subst (λ (r : Option S). DoesSo command t r) (sym empty) does)
-
-  pub does_usage : (s : Status) (rest : Option S) → s ≡ status.Usage → rest ≡ None → Says w w' before now usage_line → DoesSo None s rest
-  does_usage s rest is empty says = at None s status.Usage rest None is empty (usage_so says)
-
-  pub does_memory : (command : Option Wanted) (s : Status) (rest : Option S) → s ≡ status.Memory → rest ≡ None → now ≡ before → DoesSo command s rest
-  does_memory command s rest is empty same = at command s status.Memory rest None is empty (memory_so command same)
-
-  refuses_so : (s : Status) (file query : List ℕ) (fault : QueryFault) → parsed query ≡ Err fault → Refuses s fault w w' before now → DoesSo (Some (Scan file query)) s None
-  refuses_so status.QueryRefused file query fault is refuses = refused_so file query fault is refuses
-  refuses_so status.Memory file query fault is refuses = memory_so (Some (Scan file query)) refuses
-  refuses_so status.Done file query fault is refuses = absurd refuses
-  refuses_so status.Usage file query fault is refuses = absurd refuses
-  refuses_so status.OpenFault file query fault is refuses = absurd refuses
-  refuses_so status.WriteFault file query fault is refuses = absurd refuses
-  refuses_so status.ReadFault file query fault is refuses = absurd refuses
-  refuses_so status.InputFault file query fault is refuses = absurd refuses
-  refuses_so status.Full file query fault is refuses = absurd refuses
-  refuses_so status.ScriptFault file query fault is refuses = absurd refuses
-  refuses_so status.TooLong file query fault is refuses = absurd refuses
-
-  pub does_refuse : (s : Status) (rest : Option S) (file query : List ℕ) (fault : QueryFault) → parsed query ≡ Err fault → rest ≡ None → Refuses s fault w w' before now
-      → DoesSo (Some (Scan file query)) s rest
-  does_refuse s rest file query fault is empty refuses = at (Some (Scan file query)) s s rest None refl empty (refuses_so s file query fault is refuses)
+  pub does_refuse : (s : Status) (file query : List ℕ) (fault : QueryFault) → parsed query ≡ Err fault → now.opens ≡ before.opens
+      → Refuses s fault before.writes now.writes before.written now.written → Does (Some (Scan file query)) before now (record { status = s; source = None })
+  does_refuse status.Done file query fault is same refuses = absurd refuses
+  does_refuse status.Usage file query fault is same refuses = absurd refuses
+  does_refuse status.QueryRefused file query fault is same refuses = refused_so file query fault is same refuses
+  does_refuse status.OpenFault file query fault is same refuses = absurd refuses
+  does_refuse status.WriteFault file query fault is same refuses = absurd refuses
+  does_refuse status.ReadFault file query fault is same refuses = absurd refuses
+  does_refuse status.InputFault file query fault is same refuses = absurd refuses
+  does_refuse status.Full file query fault is same refuses = absurd refuses
+  does_refuse status.ScriptFault file query fault is same refuses = absurd refuses
+  does_refuse status.Memory file query fault is same refuses = does_memory (Some (Scan file query)) refuses.0 (same, refuses.1)
+  does_refuse status.TooLong file query fault is same refuses = absurd refuses
 
   -- ---- where a file was to be opened
 
@@ -92,36 +87,160 @@ module _ {S : Type 0} (left_of : S → Option (List ℕ)) (faults_of : S → ℕ
   not_refused : (s : Status) → IsOfFile s → s ≢ status.QueryRefused
   not_refused s known = λ is. subst IsOfFile is known
 
-  early_so : (s : Status) (wanted : Wanted) → SaysUnopened (file_of wanted) s w w' before now → SaysEarly (Some wanted) s w w' before now
-  early_so status.OpenFault wanted says = says
-  early_so status.Memory wanted says = says
-  early_so status.QueryRefused wanted says = absurd says
+  of_command : (s : Status) → IsOfFile s → IsOfCommand s
+  of_command status.Done known = tt
+  of_command status.Usage known = tt
+  of_command status.QueryRefused known = tt
+  of_command status.OpenFault known = tt
+  of_command status.WriteFault known = tt
+  of_command status.ReadFault known = tt
+  of_command status.InputFault known = tt
+  of_command status.Full known = known
+  of_command status.ScriptFault known = known
+  of_command status.Memory known = tt
+  of_command status.TooLong known = tt
+
+  early_so : (s : Status) (wanted : Wanted) → SaysUnopened (file_of wanted) s before now → SaysEarly (Some wanted) s before now
   early_so status.Done wanted says = absurd says
   early_so status.Usage wanted says = absurd says
+  early_so status.QueryRefused wanted says = absurd says
+  early_so status.OpenFault wanted says = says
   early_so status.WriteFault wanted says = absurd says
   early_so status.ReadFault wanted says = absurd says
   early_so status.InputFault wanted says = absurd says
   early_so status.Full wanted says = absurd says
   early_so status.ScriptFault wanted says = absurd says
+  early_so status.Memory wanted says = says
   early_so status.TooLong wanted says = absurd says
 
-  early_of : (rest : Option S) (s : Status) (wanted : Wanted) → IfNone rest (SaysUnopened (file_of wanted) s w w' before now) → IfNone rest (SaysEarly (Some wanted) s w w' before now)
+  early_of : (source : Option Rest) (s : Status) (wanted : Wanted) → IfNone source (SaysUnopened (file_of wanted) s before now) → IfNone source (SaysEarly (Some wanted) s before now)
   early_of None s wanted says = early_so s wanted says
-  early_of (Some source) s wanted says = tt
+  early_of (Some rest) s wanted says = tt
 
-  pub does_file : (wanted : Wanted) (s : Status) (rest : Option S) → ¬ IsRefused (Some wanted) → IsOfFile s
-      → (s ≡ status.OpenFault → Rose o o') → (s ≡ status.WriteFault → Rose w w') → (s ≡ status.ReadFault → IsSomeAnd rest (λ source. Rose 0 (faults_of source)))
-      → WasOpened s (IsSome rest) → IfSome rest (λ source. TellsCommand (Some wanted) bytes_of (left_of source) (faults_of source) s before now)
-      → IfNone rest (SaysUnopened (file_of wanted) s w w' before now) → DoesSo (Some wanted) s rest
-  does_file wanted s rest sound known opening write read opened told early = record {
-    usage = record { only = λ is. absurd (not_usage s known is); always = λ h _. cc };
-    refused = record { only = λ is. absurd (not_refused s known is); always = λ h _. absurd (sound h) };
-    opening = opening;
+  scanned_by : (wanted : Wanted) (text : Steps → List ℕ) (s : Status) (source : Option Rest)
+      → ((rest : Rest) → TellsFile (file_of wanted) text before now s rest → TellsCommand (Some wanted) before now s rest)
+      → IfSome source (λ rest. TellsFile (file_of wanted) text before now s rest) → IfSome source (λ rest. TellsCommand (Some wanted) before now s rest)
+  scanned_by wanted text s None tells told = tt
+  scanned_by wanted text s (Some rest) tells told = tells rest told
+
+  does_file : (wanted : Wanted) (text : Steps → List ℕ) (ended : Outcome) → ¬ IsRefused (Some wanted) → ReportsFile (file_of wanted) text before now ended
+      → ((rest : Rest) → TellsFile (file_of wanted) text before now ended.status rest → TellsCommand (Some wanted) before now ended.status rest) → Does (Some wanted) before now ended
+  does_file wanted text ended sound reports tells = record {
+    known = of_command ended.status reports.known;
+    usage = record { only = λ is. absurd (not_usage ended.status reports.known is); always = λ h _. cc };
+    refused = record { only = λ is. absurd (not_refused ended.status reports.known is); always = λ h _. absurd (sound h) };
+    opening = reports.opening;
+    write = reports.write;
+    read = reports.read;
+    stands = reports.stands;
+    opened = reports.opened;
+    scanned = scanned_by wanted text ended.status ended.source tells reports.scanned;
+    early = early_of ended.source ended.status wanted reports.early;
+  }
+
+  pub does_check : (file : List ℕ) (ended : Outcome) → ReportsFile file check_text before now ended → Does (Some (Check file)) before now ended
+  does_check file ended reports = does_file (Check file) check_text ended (λ h. h) reports (λ rest tells. tells)
+
+  scan_sound : (file query : List ℕ) (expr : Expr) → parsed query ≡ Ok expr → ¬ IsRefused (Some (Scan file query))
+  scan_sound file query expr is = λ refused. subst IsRefusal is refused
+
+  pub does_scan : (file query : List ℕ) (expr : Expr) (ended : Outcome) → parsed query ≡ Ok expr → ReportsFile file (λ steps. scan_text steps expr) before now ended
+      → Does (Some (Scan file query)) before now ended
+  does_scan file query expr ended is reports =
+      does_file (Scan file query) (λ steps. scan_text steps expr) ended (scan_sound file query expr is) reports
+      (λ rest tells. subst (λ (r : Result Expr QueryFault). TellsScan r file before now ended.status rest) (sym is) tells)
+
+  -- ---- a file
+
+  report_known : (s : Status) → IsOfReport s → IsOfFile s
+  report_known status.Done known = tt
+  report_known status.Usage known = absurd known
+  report_known status.QueryRefused known = absurd known
+  report_known status.OpenFault known = tt
+  report_known status.WriteFault known = tt
+  report_known status.ReadFault known = tt
+  report_known status.InputFault known = tt
+  report_known status.Full known = absurd known
+  report_known status.ScriptFault known = absurd known
+  report_known status.Memory known = tt
+  report_known status.TooLong known = tt
+
+  not_opening : (s : Status) → IsOfReport s → s ≢ status.OpenFault
+  not_opening s known = λ is. subst IsOfReport is known
+
+  report_stands : (s : Status) → IsOfReport s → now.opens ≡ before.opens → SinkStands s before.writes now.writes → StandsBy s before now
+  report_stands status.Done known same sink = (same, sink)
+  report_stands status.Usage known same sink = absurd known
+  report_stands status.QueryRefused known same sink = absurd known
+  report_stands status.OpenFault known same sink = absurd known
+  report_stands status.WriteFault known same sink = same
+  report_stands status.ReadFault known same sink = (same, sink)
+  report_stands status.InputFault known same sink = (same, sink)
+  report_stands status.Full known same sink = absurd known
+  report_stands status.ScriptFault known same sink = absurd known
+  report_stands status.Memory known same sink = (same, sink)
+  report_stands status.TooLong known same sink = (same, sink)
+
+  report_opened : (s : Status) (rest : Rest) → IsOfReport s → WasOpened s (IsSome (Some rest))
+  report_opened status.Done rest known = refl
+  report_opened status.Usage rest known = absurd known
+  report_opened status.QueryRefused rest known = absurd known
+  report_opened status.OpenFault rest known = absurd known
+  report_opened status.WriteFault rest known = refl
+  report_opened status.ReadFault rest known = refl
+  report_opened status.InputFault rest known = refl
+  report_opened status.Full rest known = absurd known
+  report_opened status.ScriptFault rest known = absurd known
+  report_opened status.Memory rest known = tt
+  report_opened status.TooLong rest known = refl
+
+  pub reports_opened : (file : List ℕ) (text : Steps → List ℕ) (s : Status) (rest : Rest) (left : Option (List ℕ)) (faults : ℕ)
+      → left ≡ before.bytes_of file → faults ≡ 0 → now.opens ≡ before.opens
+      → TellsOf s left rest.left faults rest.faults text before.written now.written → TellsSome s text before.written now.written → IsOfReport s
+      → ReadsWell s faults rest.faults → LeavesNothing s rest.left → SinkStands s before.writes now.writes
+      → (s ≡ status.ReadFault → Rose faults rest.faults) → (s ≡ status.WriteFault → Rose before.writes now.writes)
+      → ReportsFile file text before now (record { status = s; source = Some rest })
+  reports_opened file text s rest left faults is none same told untold known reads ends sink read write = record {
+    known = report_known s known;
+    opening = λ h. absurd (not_opening s known h);
     write = write;
-    read = read;
-    opened = opened;
-    scanned = told;
-    early = early_of rest s wanted early;
+    read = λ h. subst (λ (n : ℕ). Rose n rest.faults) none (read h);
+    stands = report_stands s known same sink;
+    opened = report_opened s rest known;
+    scanned = record {
+      told = subst (λ (n : ℕ). TellsOf s (before.bytes_of file) rest.left n rest.faults text before.written now.written) none
+          (subst (λ (k : Option (List ℕ)). TellsOf s k rest.left faults rest.faults text before.written now.written) is told);
+      untold = untold;
+      reads = subst (λ (n : ℕ). ReadsWell s n rest.faults) none reads;
+      ends = ends;
+    };
+    early = tt;
+  }
+
+  pub reports_failed : (file : List ℕ) (text : Steps → List ℕ) → Rose before.opens now.opens → SaysUnopened file status.OpenFault before now
+      → ReportsFile file text before now (record { status = status.OpenFault; source = None })
+  reports_failed file text rose says = record {
+    known = tt;
+    opening = λ h. rose;
+    write = λ h. cc;
+    read = λ h. cc;
+    stands = tt;
+    opened = λ h. cc;
+    scanned = tt;
+    early = says;
+  }
+
+  pub reports_memory : (file : List ℕ) (text : Steps → List ℕ) → now.written ≡ before.written → Stands before now
+      → ReportsFile file text before now (record { status = status.Memory; source = None })
+  reports_memory file text same stands = record {
+    known = tt;
+    opening = λ h. cc;
+    write = λ h. cc;
+    read = λ h. cc;
+    stands = stands;
+    opened = tt;
+    scanned = tt;
+    early = same;
   }
 
   -- ---- a sound command on a whole log
@@ -146,46 +265,51 @@ module _ {S : Type 0} (left_of : S → Option (List ℕ)) (faults_of : S → ℕ
       ap (λ (b : Bool). (steps_of_source bytes rest b).end) (none_lt n calm)
       ∙ ap (λ (s : Steps). s.end) (below_bound bytes (take (length bytes - length rest) bytes) false few refl) ∙ whole.1
 
-  tells_whole : (s : Status) (known left : Option (List ℕ)) (n : ℕ) (text : Steps → List ℕ) → TellsOf s known left 0 n text before now → IsSomeAnd known IsWhole → ¬ Rose 0 n
-      → (t : List ℕ) × TellsText s end.Done t before now
+  abbrev EndsDone : Status → Type 0
+  EndsDone s = (t : List ℕ) × TellsText s end.Done t before.written now.written
+
+  tells_whole : (s : Status) (known left : Option (List ℕ)) (n : ℕ) (text : Steps → List ℕ) → TellsOf s known left 0 n text before.written now.written → IsSomeAnd known IsWhole → ¬ Rose 0 n → EndsDone s
   tells_whole s None left n text tells whole calm = absurd whole
   tells_whole s (Some bytes) None n text tells whole calm = absurd tells
   tells_whole s (Some bytes) (Some rest) n text tells whole calm =
       let steps = steps_of_source bytes rest (nat_lt 0 n) in
-      (text steps, subst (λ (e : ZeekEnd). TellsText s e (text steps) before now) (whole_ends bytes rest n whole calm) (tells (omega arith)))
+      (text steps, subst (λ (e : ZeekEnd). TellsText s e (text steps) before.written now.written) (whole_ends bytes rest n whole calm) (tells (omega arith)))
 
-  scan_whole : (r : Result Expr QueryFault) (s : Status) (known left : Option (List ℕ)) (n : ℕ) → TellsScan r s known left n before now → IsSomeAnd known IsWhole → ¬ Rose 0 n
-      → (t : List ℕ) × TellsText s end.Done t before now
-  scan_whole (Ok expr) s known left n tells whole calm = tells_whole s known left n (λ steps. scan_text steps expr) tells whole calm
-  scan_whole (Err fault) s known left n tells whole calm = absurd tells
+  scan_whole : (r : Result Expr QueryFault) (file : List ℕ) (s : Status) (rest : Rest) → TellsScan r file before now s rest → IsSomeAnd (before.bytes_of file) IsWhole → ¬ Rose 0 rest.faults → EndsDone s
+  scan_whole (Ok expr) file s rest tells whole calm = tells_whole s (before.bytes_of file) rest.left rest.faults (λ steps. scan_text steps expr) tells.told whole calm
+  scan_whole (Err fault) file s rest tells whole calm = absurd tells
 
-  command_whole : (command : Option Wanted) (s : Status) (left : Option (List ℕ)) (n : ℕ) → TellsCommand command bytes_of left n s before now → HasWhole command bytes_of → ¬ Rose 0 n
-      → (t : List ℕ) × TellsText s end.Done t before now
-  command_whole None s left n tells whole calm = absurd tells
-  command_whole (Some (Scan file query)) s left n tells whole calm = scan_whole (parsed query) s (bytes_of file) left n tells whole calm
-  command_whole (Some (Check file)) s left n tells whole calm = tells_whole s (bytes_of file) left n check_text tells whole calm
+  command_whole : (command : Option Wanted) (s : Status) (rest : Rest) → TellsCommand command before now s rest → IsSomeAnd (bytes_for command before) IsWhole → ¬ Rose 0 rest.faults → EndsDone s
+  command_whole None s rest tells whole calm = absurd tells
+  command_whole (Some (Scan file query)) s rest tells whole calm = scan_whole (parsed query) file s rest tells whole calm
+  command_whole (Some (Check file)) s rest tells whole calm = tells_whole s (before.bytes_of file) rest.left rest.faults check_text tells.told whole calm
 
-  source_whole : (command : Option Wanted) (s : Status) (rest : Option S) → IsSome rest → IfSome rest (λ source. TellsCommand command bytes_of (left_of source) (faults_of source) s before now)
-      → HasWhole command bytes_of → IfSome rest (λ source. ¬ Rose 0 (faults_of source)) → (t : List ℕ) × TellsText s end.Done t before now
+  source_whole : (command : Option Wanted) (s : Status) (source : Option Rest) → IsSome source → IfSome source (λ rest. TellsCommand command before now s rest)
+      → IsSomeAnd (bytes_for command before) IsWhole → IfSome source (λ rest. ¬ Rose 0 rest.faults) → EndsDone s
   source_whole command s None some tells whole calm = cc
-  source_whole command s (Some source) some tells whole calm = command_whole command s (left_of source) (faults_of source) tells whole calm
+  source_whole command s (Some rest) some tells whole calm = command_whole command s rest tells whole calm
 
-  no_read_fault : (rest : Option S) → IsSomeAnd rest (λ source. Rose 0 (faults_of source)) → IfSome rest (λ source. ¬ Rose 0 (faults_of source)) → ⊥
+  no_read_fault : (source : Option Rest) → IsSomeAnd source (λ rest. Rose 0 rest.faults) → IfSome source (λ rest. ¬ Rose 0 rest.faults) → ⊥
   no_read_fault None rose calm = rose
-  no_read_fault (Some source) rose calm = calm rose
+  no_read_fault (Some rest) rose calm = calm rose
 
-  pub completes : (command : Option Wanted) (s : Status) (rest : Option S) → DoesSo command s rest → Completes faults_of command bytes_of o o' w w' s rest
-  completes command status.Done rest does sound whole opens writes calm = tt
-  completes command status.Memory rest does sound whole opens writes calm = tt
-  completes command status.Usage rest does sound whole opens writes calm = subst IsSound (does.usage.only refl) sound
-  completes command status.QueryRefused rest does sound whole opens writes calm = sound_not_refused command sound (does.refused.only refl)
-  completes command status.OpenFault rest does sound whole opens writes calm = opens (does.opening refl)
-  completes command status.WriteFault rest does sound whole opens writes calm = writes (does.write refl)
-  completes command status.ReadFault rest does sound whole opens writes calm = no_read_fault rest (does.read refl) calm
-  completes command status.InputFault rest does sound whole opens writes calm =
-      (source_whole command status.InputFault rest does.opened does.scanned whole calm).1.0
-  completes command status.TooLong rest does sound whole opens writes calm =
-      let told = source_whole command status.TooLong rest does.opened does.scanned whole calm in
+  done_by : (s : Status) (command : Option Wanted) (source : Option Rest) → Does command before now (record { status = s; source = source })
+      → IsSound command → IsSomeAnd (bytes_for command before) IsWhole → ¬ Rose before.opens now.opens → ¬ Rose before.writes now.writes
+      → IfSome source (λ rest. ¬ Rose 0 rest.faults) → IsDone s
+  done_by status.Done command source does sound whole opens writes calm = tt
+  done_by status.Memory command source does sound whole opens writes calm = tt
+  done_by status.Usage command source does sound whole opens writes calm = subst IsSound (does.usage.only refl) sound
+  done_by status.QueryRefused command source does sound whole opens writes calm = sound_not_refused command sound (does.refused.only refl)
+  done_by status.OpenFault command source does sound whole opens writes calm = opens (does.opening refl)
+  done_by status.WriteFault command source does sound whole opens writes calm = writes (does.write refl)
+  done_by status.ReadFault command source does sound whole opens writes calm = no_read_fault source (does.read refl) calm
+  done_by status.InputFault command source does sound whole opens writes calm =
+      (source_whole command status.InputFault source does.opened does.scanned whole calm).1.0
+  done_by status.TooLong command source does sound whole opens writes calm =
+      let told = source_whole command status.TooLong source does.opened does.scanned whole calm in
       let no = told.1.0 in cc
-  completes command status.Full rest does sound whole opens writes calm = (source_whole command status.Full rest does.opened does.scanned whole calm).1
-  completes command status.ScriptFault rest does sound whole opens writes calm = (source_whole command status.ScriptFault rest does.opened does.scanned whole calm).1
+  done_by status.Full command source does sound whole opens writes calm = does.known
+  done_by status.ScriptFault command source does sound whole opens writes calm = does.known
+
+  pub completes : (command : Option Wanted) (ended : Outcome) → Does command before now ended → Completes command before now ended
+  completes command ended does sound whole opens writes calm = done_by ended.status command ended.source does sound whole opens writes calm

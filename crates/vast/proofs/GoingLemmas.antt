@@ -1,28 +1,30 @@
 -- How far a report of a log has come.
-use Rattle.std.proofs.Common.{◌≡◌, ◌≢◌, ℕ, ◌+◌, ◌-◌, ◌^◌, ◌<◌, Bool, true, false, List, [], ◌++◌, Option, None, Some, Result, Ok, Err, IfSome, IsSomeAnd, length, take, refl, ap, sym, ◌∙◌, subst, append_assoc, nat_lt, nat_le, arith, inl, inr}
+use Rattle.std.proofs.Common.{◌≡◌, ◌≢◌, ℕ, ◌+◌, ◌-◌, ◌^◌, ◌<◌, Bool, true, false, List, [], ◌++◌, Option, None, Some, Result, Ok, Err, IfSome, IsSomeAnd, length, take, refl, ap, sym, ◌∙◌, subst, append_assoc, nat_lt, nat_le, arith, inl, inr, ◌⊎◌}
 use Rattle.std.proofs.lemmas.Bool.Decides.{nat_tests}
 use Rattle.std.proofs.lemmas.List.{append-nil, length-append}
 use Rattle.std.proofs.Math.Seq.{take-append_seam}
 use Rattle.std.specs.Io.KnownBytes.{append_known, prepend_known}
 use Rattle.vast_io.specs.Causes.{Rose}
-use Rattle.vast_io.specs.Told.{WritesPart}
-use Rattle.vast_io.proofs.Writing.{part_all, part_behind, part_longer, append_known-append, append_known-nil}
+use Rattle.vast_io.specs.Told.{WritesPart, IsAtEnd}
+use Rattle.vast_io.proofs.Writing.{part_all, part_none, part_behind, part_longer, append_known-append, append_known-nil}
 use Rattle.vast_value.specs.Headings.{Heading}
 use Rattle.zeek_log.specs.declared.step.Step.{Step}
 use Rattle.zeek_log.specs.declared.step.Step.TheVariants as step
+use Rattle.zeek_log.specs.declared.fault.ZeekFault.{ZeekFault}
 use Rattle.zeek_log.specs.declared.step.ZeekEnd.{ZeekEnd}
 use Rattle.zeek_log.specs.declared.step.ZeekEnd.TheVariants as end
 use Rattle.zeek_log.specs.Heads.{Told, opening}
-use Rattle.zeek_log.specs.Lines.{Stop, AllThere, Failed, AtBound}
-use Rattle.zeek_log.specs.Reader.{State, Reads, Last, Ended, Reading, to_come, come_from, IsMet, MayFollow, IsMetAtLast, StepsOn, EndsAs, Closes, Follows, CountsBy, CountsOf, heading_told, StepFits}
+use Rattle.source_block.specs.declared.stop.Stop.{Stop}
+use Rattle.source_block.specs.declared.stop.Stop.TheVariants.{AtEnd, Failed, AtBound}
+use Rattle.zeek_log.specs.Reader.{State, Reads, Last, Ended, Reading, to_come, come_from, IsMet, MayFollow, IsMetAtLast, StepsOn, EndsAnyway, EndsThere, EndsAs, Closes, Follows, CountsBy, CountsOf, heading_told, StepFits}
 use Rattle.zeek_log.specs.Steps.{Steps, ended, first, step_of, steps_of, steps_of_source, taken_steps}
 use Rattle.zeek_log.specs.Table.{LogStep}
-use Rattle.zeek_log.specs.Taking.{most_bytes}
+use Rattle.source_block.specs.Holding.{most_bytes}
 use Rattle.vast.specs.declared.status.Status.{Status}
 use Rattle.vast.specs.declared.status.Status.TheVariants as status
 use Rattle.vast.specs.declared.report.WriteEnd.{WriteEnd}
 use Rattle.vast.specs.declared.report.WriteEnd.TheVariants as write
-use Rattle.vast.specs.Causes.{TellsText, Tells, TellsOf, IsFault}
+use Rattle.vast.specs.Causes.{TellsText, Tells, TellsOf, TellsSome, IsFault, ReadsWell, LeavesNothing, SinkStands}
 use Rattle.vast.specs.Reports.{Moves, FitsLast, heading_after, status_of}
 
 -- ---- the source's bytes
@@ -47,17 +49,17 @@ source_failed bytes took rest split = ap (λ (t : List ℕ). steps_of t Failed) 
 at_bound : (bytes took : List ℕ) (b : Bool) → nat_le most_bytes (length took) ≡ b → b ≡ true → taken_steps bytes took false ≡ steps_of took AtBound
 at_bound bytes took b is at = rw (is ∙ at) refl
 
-pub below_bound : (bytes took : List ℕ) (b : Bool) → nat_le most_bytes (length took) ≡ b → b ≡ false → taken_steps bytes took false ≡ steps_of bytes AllThere
+pub below_bound : (bytes took : List ℕ) (b : Bool) → nat_le most_bytes (length took) ≡ b → b ≡ false → taken_steps bytes took false ≡ steps_of bytes AtEnd
 below_bound bytes took b is off = rw (is ∙ off) refl
 
 source_full : (bytes took rest : List ℕ) → bytes ≡ took ++ rest → nat_le most_bytes (length took) ≡ true → steps_of_source bytes rest false ≡ steps_of took AtBound
 source_full bytes took rest split full =
     ap (λ (t : List ℕ). taken_steps bytes t false) (taken_is bytes took rest split) ∙ at_bound bytes took true full refl
 
-source_there : (bytes took rest : List ℕ) → bytes ≡ took ++ rest → nat_le most_bytes (length took) ≡ false → steps_of_source bytes rest false ≡ steps_of (took ++ rest) AllThere
+source_there : (bytes took rest : List ℕ) → bytes ≡ took ++ rest → nat_le most_bytes (length took) ≡ false → steps_of_source bytes rest false ≡ steps_of (took ++ rest) AtEnd
 source_there bytes took rest split few =
     ap (λ (t : List ℕ). taken_steps bytes t false) (taken_is bytes took rest split) ∙ below_bound bytes took false few refl
-    ∙ ap (λ (t : List ℕ). steps_of t AllThere) split
+    ∙ ap (λ (t : List ℕ). steps_of t AtEnd) split
 
 pub below_most : (n : ℕ) → n < most_bytes → nat_le most_bytes n ≡ false
 below_most n few = grind (arith, nat_tests, few)
@@ -84,7 +86,7 @@ pub record Going (whole behind : Steps → List ℕ) (held : List ℕ) (reader :
   pub met : IsMetAtLast reader.state left_now reader.taken
 
 abbrev start : Reading
-start = record { state = Reads opening 1; held = []; taken = 0 }
+start = record { state = Reads opening 1; held = []; taken = 0; kept = 65536 }
 
 abbrev GoingFrom : (Steps → List ℕ) → Option (List ℕ) → Option (List ℕ) → Reading → Type 0
 GoingFrom whole left before reader = Going whole whole [] reader left left before before
@@ -180,11 +182,11 @@ follow_full (Last told) taken bytes took rest split count met full =
 follow_there : (state : State) (taken : ℕ) (bytes took rest : List ℕ) → bytes ≡ took ++ rest → IsMetAtLast state (Some rest) taken
     → nat_le most_bytes (length took) ≡ false → Follow state took bytes rest
 follow_there (Reads told n) taken bytes took rest split met few =
-    record { more = rest; stop = AllThere; may = tt; is = source_there bytes took rest split few }
+    record { more = rest; stop = AtEnd; may = tt; is = source_there bytes took rest split few }
 follow_there (Ended e) taken bytes took rest split met few =
-    record { more = rest; stop = AllThere; may = tt; is = source_there bytes took rest split few }
+    record { more = rest; stop = AtEnd; may = tt; is = source_there bytes took rest split few }
 follow_there (Last told) taken bytes took rest split met few =
-    record { more = rest; stop = AllThere; may = (met.0, refl); is = source_there bytes took rest split few }
+    record { more = rest; stop = AtEnd; may = (met.0, refl); is = source_there bytes took rest split few }
 
 follow_by : (b : Bool) (state : State) (taken : ℕ) (bytes took rest : List ℕ) → bytes ≡ took ++ rest → taken ≡ length took → IsMetAtLast state (Some rest) taken
     → nat_le most_bytes (length took) ≡ b → Follow state took bytes rest
@@ -284,12 +286,12 @@ module _ (whole behind : Steps → List ℕ) (held : List ℕ) (old : Reading) (
       (source ∙ ap (λ (t : List ℕ). steps_of t stop) (sym (append-nil (so.took ++ took))))
 
   -- the source had no bytes left
-  come_there : (e : ZeekEnd) (took bytes rest : List ℕ) → MayFollow old.state took AllThere → bytes ≡ (so.took ++ took) ++ rest → rest ≡ []
-      → length (so.took ++ took) < most_bytes → to_come old took AllThere ≡ ended e → EndsSo whole behind held so.sent e (steps_of_source bytes rest false)
+  come_there : (e : ZeekEnd) (took bytes rest : List ℕ) → MayFollow old.state took AtEnd → bytes ≡ (so.took ++ took) ++ rest → rest ≡ []
+      → length (so.took ++ took) < most_bytes → to_come old took AtEnd ≡ ended e → EndsSo whole behind held so.sent e (steps_of_source bytes rest false)
   come_there e took bytes rest may split empty few is =
-      come_all e took bytes rest AllThere false may is
+      come_all e took bytes rest AtEnd false may is
       (source_there bytes (so.took ++ took) rest split (below_most (length (so.took ++ took)) few)
-      ∙ ap (λ (t : List ℕ). steps_of ((so.took ++ took) ++ t) AllThere) empty ∙ ap (λ (t : List ℕ). steps_of t AllThere) (append-nil (so.took ++ took)))
+      ∙ ap (λ (t : List ℕ). steps_of ((so.took ++ took) ++ t) AtEnd) empty ∙ ap (λ (t : List ℕ). steps_of t AtEnd) (append-nil (so.took ++ took)))
 
   come_anyway : (b : Bool) (e : ZeekEnd) (took bytes rest : List ℕ) → ((more : List ℕ) (stop : Stop) → MayFollow old.state more stop)
       → bytes ≡ (so.took ++ took) ++ rest → nat_le most_bytes (length (so.took ++ took)) ≡ b
@@ -298,7 +300,7 @@ module _ (whole behind : Steps → List ℕ) (held : List ℕ) (old : Reading) (
       come e took [] bytes rest AtBound false (any (took ++ []) AtBound) (is [] AtBound)
       (source_full bytes (so.took ++ took) rest split full ∙ ap (λ (t : List ℕ). steps_of t AtBound) (sym (append-nil (so.took ++ took))))
   come_anyway false e took bytes rest any split few is =
-      come e took rest bytes rest AllThere false (any (took ++ rest) AllThere) (is rest AllThere) (source_there bytes (so.took ++ took) rest split few)
+      come e took rest bytes rest AtEnd false (any (took ++ rest) AtEnd) (is rest AtEnd) (source_there bytes (so.took ++ took) rest split few)
 
   -- what was sent is the first part, whatever was taken besides
   sent_part : (steps : Steps) (took more : List ℕ) (stop : Stop) → MayFollow old.state (took ++ more) stop → steps ≡ steps_of ((so.took ++ took) ++ more) stop
@@ -315,7 +317,7 @@ module _ (whole behind : Steps → List ℕ) (held : List ℕ) (old : Reading) (
       sent_part (steps_of_source bytes rest false) took [] AtBound (any (took ++ []) AtBound)
       (source_full bytes (so.took ++ took) rest split full ∙ ap (λ (t : List ℕ). steps_of t AtBound) (sym (append-nil (so.took ++ took))))
   sent_by false took bytes rest any split few =
-      sent_part (steps_of_source bytes rest false) took rest AllThere (any (took ++ rest) AllThere) (source_there bytes (so.took ++ took) rest split few)
+      sent_part (steps_of_source bytes rest false) took rest AtEnd (any (took ++ rest) AtEnd) (source_there bytes (so.took ++ took) rest split few)
 
   split_is : (bytes took rest : List ℕ) → left ≡ Some bytes → mid ≡ prepend_known took (Some rest) → bytes ≡ (so.took ++ took) ++ rest
   split_is bytes took rest at from =
@@ -335,13 +337,13 @@ module _ (whole behind : Steps → List ℕ) (held : List ℕ) (old : Reading) (
       → e ≢ end.Memory → f < 2 ^ 64 - 1 → EndsSo whole behind held so.sent e (steps_of_source bytes rest (nat_lt f g))
   ends_as end.Done new took bytes rest f g any split count is counts some room =
       subst (λ (b : Bool). EndsSo whole behind held so.sent end.Done (steps_of_source bytes rest b)) (sym (not_below f g counts))
-      (come_there end.Done took bytes rest (any took AllThere) split is.1.0 (omega (arith, is.1.1, count)) is.0)
+      (come_there end.Done took bytes rest (any took AtEnd) split is.1.0 (omega (arith, is.1.1, count)) is.0)
   ends_as (end.Fault l c w) new took bytes rest f g any split count (inl is) counts some room =
       subst (λ (b : Bool). EndsSo whole behind held so.sent (end.Fault l c w) (steps_of_source bytes rest b)) (sym (not_below f g counts))
       (come_anyway (nat_le most_bytes (length (so.took ++ took))) (end.Fault l c w) took bytes rest any split refl is)
   ends_as (end.Fault l c w) new took bytes rest f g any split count (inr is) counts some room =
       subst (λ (b : Bool). EndsSo whole behind held so.sent (end.Fault l c w) (steps_of_source bytes rest b)) (sym (not_below f g counts))
-      (come_there (end.Fault l c w) took bytes rest (any took AllThere) split is.1.0 (omega (arith, is.1.1, count)) is.0)
+      (come_there (end.Fault l c w) took bytes rest (any took AtEnd) split is.1.0 (omega (arith, is.1.1, count)) is.0)
   ends_as end.ReadFault new took bytes rest f g any split count is counts some room =
       subst (λ (b : Bool). EndsSo whole behind held so.sent end.ReadFault (steps_of_source bytes rest b)) (sym (rose_above f g room counts))
       (come_all end.ReadFault took bytes rest Failed true (any took Failed) is (source_failed bytes (so.took ++ took) rest split))
@@ -376,9 +378,9 @@ module _ (whole behind : Steps → List ℕ) (held : List ℕ) (old : Reading) (
       let there : IsMet (Some rest) old.taken = subst (λ (k : Option (List ℕ)). IsMet k old.taken) (sym same) met in
       subst (λ (b : Bool). EndsSo whole behind held so.sent end.Done (steps_of_source bytes rest b)) (sym (not_below f g counts))
       (come_there end.Done [] bytes rest
-      (subst (λ (st : State). MayFollow st [] AllThere) (sym last) (refl, refl))
+      (subst (λ (st : State). MayFollow st [] AtEnd) (sym last) (refl, refl))
       (split_is bytes [] rest at (sym same ∙ sym (prepend_known-nil (Some rest)))) there.0 (omega (arith, there.1, so.count, length-append so.took []))
-      (ap (λ (st : State). come_from st (old.held ++ []) AllThere) last))
+      (ap (λ (st : State). come_from st (old.held ++ []) AtEnd) last))
 
 whole_behind : (full text sent : List ℕ) (before mid now : Option (List ℕ)) → full ≡ sent ++ text → mid ≡ append_known before sent
     → now ≡ append_known mid text → now ≡ append_known before full
@@ -428,12 +430,11 @@ not_memory : (e : ZeekEnd) → e ≡ end.Done → e ≢ end.Memory
 not_memory e done = λ memory. let no : end.Done ≡ end.Memory = sym done ∙ memory in cc
 
 -- an end is want of memory, or another
-is_memory : ZeekEnd → Bool
+abbrev pub is_memory : ZeekEnd → Bool
 is_memory end.Memory = true
 is_memory _ = false
 
 memory_is : (e : ZeekEnd) → is_memory e ≡ true → e ≡ end.Memory
-unfolding is_memory
 memory_is end.Memory at = refl
 memory_is end.Done at = absurd (false_true at)
 memory_is (end.Fault l c w) at = absurd (false_true at)
@@ -441,7 +442,6 @@ memory_is end.ReadFault at = absurd (false_true at)
 memory_is end.TooLong at = absurd (false_true at)
 
 other_is : (e : ZeekEnd) → is_memory e ≡ false → e ≢ end.Memory
-unfolding is_memory
 other_is e at = λ memory. let no : true ≡ false = sym (ap is_memory memory) ∙ at in cc
 
 memory_counts : (e : ZeekEnd) (f g : ℕ) → e ≡ end.Memory → CountsBy (Err e) f g → g ≡ f
@@ -481,6 +481,189 @@ told_at (Reads told n) whole behind held old new left mid left_now before writte
     let any : (more : List ℕ) (stop : Stop) → MayFollow old.state more stop =
     λ more stop. subst (λ (st : State). MayFollow st more stop) (sym is) tt in
     told_reads (is_memory e) s whole behind held old new left mid left_now before written now e f g so any follows counts refl tells memory
+
+-- ---- where the source tells nothing
+
+-- what was told so far is told of the steps of what was taken, if nothing more comes
+going_there : (state : State) → MayFollow state [] AtEnd
+going_there (Reads told n) = tt
+going_there (Last told) = (refl, refl)
+going_there (Ended e) = tt
+
+pub some_cut : (s : Status) (whole behind : Steps → List ℕ) (held : List ℕ) (reader : Reading) (left left_now before mid now : Option (List ℕ))
+    → IsCut s → Going whole behind held reader left left_now before mid → ((rest : Steps) → WritesPart mid now (held ++ behind rest)) → TellsSome s whole before now
+some_cut s whole behind held reader left left_now before mid now cut so part =
+    let come = to_come reader [] AtEnd in
+    let text = so.text [] AtEnd (going_there reader.state) in
+    let written : WritesPart before now (whole (steps_of (so.took ++ []) AtEnd)) =
+    subst (λ (t : List ℕ). WritesPart before now t) (sym text) (part_behind before mid now so.sent (held ++ behind come) so.written (part come)) in
+    (steps_of (so.took ++ []) AtEnd, cut_text s (steps_of (so.took ++ []) AtEnd).end (whole (steps_of (so.took ++ []) AtEnd)) before now cut written)
+
+-- nothing more was written
+some_kept : (s : Status) (whole behind : Steps → List ℕ) (held : List ℕ) (reader : Reading) (left left_now before mid now : Option (List ℕ))
+    → IsCut s → Going whole behind held reader left left_now before mid → now ≡ mid → TellsSome s whole before now
+some_kept s whole behind held reader left left_now before mid now cut so same =
+    some_cut s whole behind held reader left left_now before mid now cut so (λ rest. part_none mid now (held ++ behind rest) same)
+
+some_came : (s : Status) (whole behind : Steps → List ℕ) (held : List ℕ) (old : Reading) (left mid left_now before written now : Option (List ℕ)) (e : ZeekEnd) (took : List ℕ) (stop : Stop)
+    → (so : Going whole behind held old left mid before written) → MayFollow old.state took stop → to_come old took stop ≡ ended e
+    → TellsText s e (held ++ behind (ended e)) written now → TellsSome s whole before now
+some_came s whole behind held old left mid left_now before written now e took stop so may is tells =
+    let text = so.text took stop may ∙ ap (λ (x : Steps). so.sent ++ (held ++ behind x)) is in
+    let ends = so.ends took stop may ∙ ap (λ (x : Steps). x.end) is in
+    (steps_of (so.took ++ took) stop,
+      finish s e (steps_of (so.took ++ took) stop).end (whole (steps_of (so.took ++ took) stop)) (held ++ behind (ended e)) so.sent before written now text ends so.written tells)
+
+some_fault : (l c : ℕ) (w : ZeekFault) (took : List ℕ) (taken : ℕ) (s : Status) (whole behind : Steps → List ℕ) (held : List ℕ) (old : Reading) (left mid left_now before written now : Option (List ℕ))
+    → EndsAnyway old took (end.Fault l c w) ⊎ EndsThere old took left_now taken (end.Fault l c w)
+    → (so : Going whole behind held old left mid before written) → ((more : List ℕ) (stop : Stop) → MayFollow old.state more stop)
+    → TellsText s (end.Fault l c w) (held ++ behind (ended (end.Fault l c w))) written now → TellsSome s whole before now
+some_fault l c w took taken s whole behind held old left mid left_now before written now (inl is) so any tells =
+    some_came s whole behind held old left mid left_now before written now (end.Fault l c w) (took ++ []) AtEnd so (any (took ++ []) AtEnd) (is [] AtEnd) tells
+some_fault l c w took taken s whole behind held old left mid left_now before written now (inr is) so any tells =
+    some_came s whole behind held old left mid left_now before written now (end.Fault l c w) took AtEnd so (any took AtEnd) is.0 tells
+
+some_ends : (e : ZeekEnd) (s : Status) (whole behind : Steps → List ℕ) (held : List ℕ) (old new : Reading) (left mid left_now before written now : Option (List ℕ))
+    → (so : Going whole behind held old left mid before written) → ((more : List ℕ) (stop : Stop) → MayFollow old.state more stop)
+    → (closes : Closes old new mid left_now e) → e ≢ end.Memory → TellsText s e (held ++ behind (ended e)) written now → TellsSome s whole before now
+some_ends end.Done s whole behind held old new left mid left_now before written now so any closes some tells =
+    some_came s whole behind held old left mid left_now before written now end.Done closes.took AtEnd so (any closes.took AtEnd) closes.is.0 tells
+some_ends end.ReadFault s whole behind held old new left mid left_now before written now so any closes some tells =
+    some_came s whole behind held old left mid left_now before written now end.ReadFault closes.took Failed so (any closes.took Failed) closes.is tells
+some_ends end.TooLong s whole behind held old new left mid left_now before written now so any closes some tells =
+    some_came s whole behind held old left mid left_now before written now end.TooLong closes.took AtBound so (any closes.took AtBound) closes.is.0 tells
+some_ends (end.Fault l c w) s whole behind held old new left mid left_now before written now so any closes some tells =
+    some_fault l c w closes.took new.taken s whole behind held old left mid left_now before written now closes.is so any tells
+some_ends end.Memory s whole behind held old new left mid left_now before written now so any closes some tells = absurd (some refl)
+
+some_reads : (b : Bool) (s : Status) (whole behind : Steps → List ℕ) (held : List ℕ) (old new : Reading) (left mid left_now before written now : Option (List ℕ)) (e : ZeekEnd)
+    → (so : Going whole behind held old left mid before written) → ((more : List ℕ) (stop : Stop) → MayFollow old.state more stop)
+    → Closes old new mid left_now e → is_memory e ≡ b
+    → (e ≢ end.Memory → TellsText s e (held ++ behind (ended e)) written now) → (e ≡ end.Memory → (s ≡ status.Memory) × (now ≡ written)) → TellsSome s whole before now
+some_reads true s whole behind held old new left mid left_now before written now e so any closes at tells memory =
+    let stays = memory (memory_is e at) in
+    some_kept s whole behind held old left mid before written now (subst IsCut (sym stays.0) tt) so stays.1
+some_reads false s whole behind held old new left mid left_now before written now e so any closes at tells memory =
+    some_ends e s whole behind held old new left mid left_now before written now so any closes (other_is e at) (tells (other_is e at))
+
+-- the reader ended, and the end was told
+pub some_at : (st : State) (whole behind : Steps → List ℕ) (held : List ℕ) (old new : Reading) (left mid left_now before written now : Option (List ℕ)) (e : ZeekEnd) (s : Status)
+    → Going whole behind held old left mid before written → old.state ≡ st → is_open st ≡ true → Follows st old new mid left_now (Err e)
+    → (e ≢ end.Memory → TellsText s e (held ++ behind (ended e)) written now) → (e ≡ end.Memory → (s ≡ status.Memory) × (now ≡ written)) → TellsSome s whole before now
+some_at (Ended last) whole behind held old new left mid left_now before written now e s so is is_opened follows tells memory = absurd (false_true is_opened)
+some_at (Last told) whole behind held old new left mid left_now before written now e s so is is_opened follows tells memory =
+    let done : e ≡ end.Done = err_is e end.Done follows.0 in
+    some_came s whole behind held old left mid left_now before written now e [] AtEnd so (subst (λ (x : State). MayFollow x [] AtEnd) (sym is) (refl, refl))
+    (ap (λ (x : State). come_from x (old.held ++ []) AtEnd) is ∙ ap ended (sym done)) (tells (not_memory e done))
+some_at (Reads told n) whole behind held old new left mid left_now before written now e s so is is_opened follows tells memory =
+    some_reads (is_memory e) s whole behind held old new left mid left_now before written now e so
+    (λ more stop. subst (λ (x : State). MayFollow x more stop) (sym is) tt) follows refl tells memory
+
+-- ---- counts at the end
+
+-- no read failed where the log ended by itself
+reads_by : (s : Status) (e : ZeekEnd) (text : List ℕ) (written now : Option (List ℕ)) (f g : ℕ) → TellsText s e text written now → (e ≢ end.ReadFault → g ≡ f) → ReadsWell s f g
+reads_by status.Done e text written now f g tells kept = kept (λ read. let no = sym tells.0 ∙ read in cc)
+reads_by status.TooLong e text written now f g tells kept = kept (λ read. let no = sym tells.0 ∙ read in cc)
+reads_by status.InputFault e text written now f g tells kept = kept (λ read. subst IsFault read tells.0)
+reads_by status.ReadFault e text written now f g tells kept = tt
+reads_by status.WriteFault e text written now f g tells kept = tt
+reads_by status.Memory e text written now f g tells kept = tt
+reads_by status.Usage e text written now f g tells kept = tt
+reads_by status.QueryRefused e text written now f g tells kept = tt
+reads_by status.OpenFault e text written now f g tells kept = tt
+reads_by status.Full e text written now f g tells kept = tt
+reads_by status.ScriptFault e text written now f g tells kept = tt
+
+counts_kept : (st : State) (e : ZeekEnd) (f g : ℕ) → CountsOf st (Err e) f g → e ≢ end.ReadFault → g ≡ f
+counts_kept (Ended last) e f g counts other = counts
+counts_kept (Last told) e f g counts other = counts
+counts_kept (Reads told n) end.Done f g counts other = counts
+counts_kept (Reads told n) (end.Fault l c w) f g counts other = counts
+counts_kept (Reads told n) end.ReadFault f g counts other = absurd (other refl)
+counts_kept (Reads told n) end.TooLong f g counts other = counts
+counts_kept (Reads told n) end.Memory f g counts other = counts
+
+memory_reads_well : (s : Status) (f g : ℕ) → s ≡ status.Memory → ReadsWell s f g
+memory_reads_well s f g is = subst (λ (x : Status). ReadsWell x f g) (sym is) tt
+
+pub reads_well : (b : Bool) (st : State) (s : Status) (e : ZeekEnd) (text : List ℕ) (written now : Option (List ℕ)) (f g : ℕ) → is_memory e ≡ b → CountsOf st (Err e) f g
+    → (e ≢ end.Memory → TellsText s e text written now) → (e ≡ end.Memory → (s ≡ status.Memory) × (now ≡ written)) → ReadsWell s f g
+reads_well true st s e text written now f g at counts tells memory = memory_reads_well s f g (memory (memory_is e at)).0
+reads_well false st s e text written now f g at counts tells memory = reads_by s e text written now f g (tells (other_is e at)) (counts_kept st e f g counts)
+
+-- ---- nothing is left where all went well
+
+nothing_by : (s : Status) (e : ZeekEnd) (text : List ℕ) (written now left : Option (List ℕ)) → TellsText s e text written now → (e ≡ end.Done → IsAtEnd left) → LeavesNothing s left
+nothing_by status.Done e text written now left tells met = met tells.0
+nothing_by status.TooLong e text written now left tells met = tt
+nothing_by status.InputFault e text written now left tells met = tt
+nothing_by status.ReadFault e text written now left tells met = tt
+nothing_by status.WriteFault e text written now left tells met = tt
+nothing_by status.Memory e text written now left tells met = tt
+nothing_by status.Usage e text written now left tells met = tt
+nothing_by status.QueryRefused e text written now left tells met = tt
+nothing_by status.OpenFault e text written now left tells met = tt
+nothing_by status.Full e text written now left tells met = tt
+nothing_by status.ScriptFault e text written now left tells met = tt
+
+met_at : (st : State) (old new : Reading) (mid left_now : Option (List ℕ)) (e : ZeekEnd) → old.state ≡ st → is_open st ≡ true → IsMetAtLast old.state mid old.taken
+    → Follows st old new mid left_now (Err e) → e ≡ end.Done → IsAtEnd left_now
+met_at (Ended last) old new mid left_now e is is_opened met follows done = absurd (false_true is_opened)
+met_at (Last told) old new mid left_now e is is_opened met follows done =
+    let there : IsMet mid old.taken = subst (λ (x : State). IsMetAtLast x mid old.taken) is met in
+    subst (λ (k : Option (List ℕ)). IsAtEnd k) (sym follows.2) there.0
+met_at (Reads told n) old new mid left_now e is is_opened met follows done =
+    let ends : EndsAs old follows.took left_now new.taken end.Done = subst (λ (x : ZeekEnd). EndsAs old follows.took left_now new.taken x) done follows.is in
+    ends.1.0
+
+pub leaves_nothing : (b : Bool) (st : State) (old new : Reading) (mid left_now : Option (List ℕ)) (s : Status) (e : ZeekEnd) (text : List ℕ) (written now : Option (List ℕ))
+    → is_memory e ≡ b → old.state ≡ st → is_open st ≡ true → IsMetAtLast old.state mid old.taken → Follows st old new mid left_now (Err e)
+    → (e ≢ end.Memory → TellsText s e text written now) → (e ≡ end.Memory → (s ≡ status.Memory) × (now ≡ written)) → LeavesNothing s left_now
+leaves_nothing true st old new mid left_now s e text written now at is is_opened met follows tells memory =
+    subst (λ (x : Status). LeavesNothing x left_now) (sym (memory (memory_is e at)).0) tt
+leaves_nothing false st old new mid left_now s e text written now at is is_opened met follows tells memory =
+    nothing_by s e text written now left_now (tells (other_is e at)) (met_at st old new mid left_now e is is_opened met follows)
+
+-- a sink that was not written to again
+pub sink_on : (s : Status) (a b c : ℕ) → SinkStands s b c → b ≡ a → SinkStands s a c
+sink_on status.WriteFault a b c stands same = tt
+sink_on status.Done a b c stands same = stands ∙ same
+sink_on status.TooLong a b c stands same = stands ∙ same
+sink_on status.InputFault a b c stands same = stands ∙ same
+sink_on status.ReadFault a b c stands same = stands ∙ same
+sink_on status.Memory a b c stands same = stands ∙ same
+sink_on status.Usage a b c stands same = stands ∙ same
+sink_on status.QueryRefused a b c stands same = stands ∙ same
+sink_on status.OpenFault a b c stands same = stands ∙ same
+sink_on status.Full a b c stands same = stands ∙ same
+sink_on status.ScriptFault a b c stands same = stands ∙ same
+
+pub cut_reads : (s : Status) (f g : ℕ) → IsCut s → ReadsWell s f g
+cut_reads status.WriteFault f g cut = tt
+cut_reads status.Memory f g cut = tt
+cut_reads status.Done f g cut = absurd cut
+cut_reads status.ReadFault f g cut = absurd cut
+cut_reads status.TooLong f g cut = absurd cut
+cut_reads status.InputFault f g cut = absurd cut
+cut_reads status.Usage f g cut = absurd cut
+cut_reads status.QueryRefused f g cut = absurd cut
+cut_reads status.OpenFault f g cut = absurd cut
+cut_reads status.Full f g cut = absurd cut
+cut_reads status.ScriptFault f g cut = absurd cut
+
+pub cut_leaves : (s : Status) (left : Option (List ℕ)) → IsCut s → LeavesNothing s left
+cut_leaves status.WriteFault left cut = tt
+cut_leaves status.Memory left cut = tt
+cut_leaves status.Done left cut = absurd cut
+cut_leaves status.ReadFault left cut = absurd cut
+cut_leaves status.TooLong left cut = absurd cut
+cut_leaves status.InputFault left cut = absurd cut
+cut_leaves status.Usage left cut = absurd cut
+cut_leaves status.QueryRefused left cut = absurd cut
+cut_leaves status.OpenFault left cut = absurd cut
+cut_leaves status.Full left cut = absurd cut
+cut_leaves status.ScriptFault left cut = absurd cut
 
 -- ---- what fits
 

@@ -1,17 +1,18 @@
 -- What each status of the program means.
 use Rattle.std.specs.Prelude.{◌≡◌, ◌≢◌, ℕ, ◌-◌, ◌^◌, ◌<◌, nat_lt, List, Option, None, Some, Result, Ok, Err, ◌⊎◌, IfSome, IfNone, IsSomeAnd, IsSome, length}
+use Rattle.std.specs.Option.{option_map}
 use Rattle.std.specs.Io.KnownBytes.{append_known}
 use Rattle.query_meaning.specs.declared.expr.Expr.{Expr}
 use Rattle.query_parse.specs.declared.fault.QueryFault.{QueryFault}
 use Rattle.query_parse.specs.Parsing.{parsed}
 use Rattle.vast_io.specs.Causes.{Rose}
-use Rattle.vast_io.specs.Told.{WritesPart}
+use Rattle.vast_io.specs.Told.{WritesPart, IsAtEnd}
 use Rattle.zeek_log.specs.declared.step.ZeekEnd.TheVariants as end
 use Rattle.zeek_log.specs.declared.step.ZeekEnd.{ZeekEnd}
-use Rattle.zeek_log.specs.Lines.{AllThere}
+use Rattle.source_block.specs.declared.stop.Stop.TheVariants.{AtEnd}
 use Rattle.zeek_log.specs.Steps.{Steps, steps_of, steps_of_source}
 use Rattle.vast.specs.declared.status.Status.{Status}
-use Rattle.vast.specs.declared.status.Status.TheVariants.{Done, Usage, QueryRefused, OpenFault, WriteFault, ReadFault, InputFault, TooLong, Memory}
+use Rattle.vast.specs.declared.status.Status.TheVariants.{Done, Usage, QueryRefused, OpenFault, WriteFault, ReadFault, InputFault, Full, ScriptFault, TooLong, Memory}
 use Rattle.vast.specs.Texts.{scan_text, check_text, usage_line, refused_line, open_line}
 use Rattle.vast.specs.Words.{Wanted, Scan, Check, file_of}
 
@@ -37,6 +38,27 @@ Tells status steps text before now = TellsText status steps.end (text steps) bef
 abbrev pub TellsOf : Status → Option (List ℕ) → Option (List ℕ) → ℕ → ℕ → (Steps → List ℕ) → Option (List ℕ) → Option (List ℕ) → Type 0
 TellsOf status left left_now faults faults_now text before now =
     IfSome left (λ bytes. IsSomeAnd left_now (λ rest. faults < 2 ^ 64 - 1 → Tells status (steps_of_source bytes rest (nat_lt faults faults_now)) text before now))
+
+-- The same of a source that tells nothing: what was written is told of some steps, and these end so.
+abbrev pub TellsSome : Status → (Steps → List ℕ) → Option (List ℕ) → Option (List ℕ) → Type 0
+TellsSome status text before now = (steps : Steps) × Tells status steps text before now
+
+-- no read failed where a log ended by itself
+abbrev pub ReadsWell : Status → ℕ → ℕ → Type 0
+ReadsWell Done faults faults_now = faults_now ≡ faults
+ReadsWell InputFault faults faults_now = faults_now ≡ faults
+ReadsWell TooLong faults faults_now = faults_now ≡ faults
+ReadsWell _ faults faults_now = Unit {0}
+
+-- where all went well, nothing is left of the source
+abbrev pub LeavesNothing : Status → Option (List ℕ) → Type 0
+LeavesNothing Done left = IsAtEnd left
+LeavesNothing _ left = Unit {0}
+
+-- the sink's count of faults stands, but where the sink failed
+abbrev pub SinkStands : Status → ℕ → ℕ → Type 0
+SinkStands WriteFault faults faults_now = Unit {0}
+SinkStands _ faults faults_now = faults_now ≡ faults
 
 -- the statuses that a command on an opened source ends with
 abbrev pub IsOfReport : Status → Type 0
@@ -66,33 +88,97 @@ abbrev pub IsRefused : Option Wanted → Type 0
 IsRefused (Some (Scan file query)) = IsRefusal (parsed query)
 IsRefused _ = ⊥
 
-abbrev pub SaysRefused : Result Expr QueryFault → ℕ → ℕ → Option (List ℕ) → Option (List ℕ) → Type 0
-SaysRefused (Ok expr) faults faults_now before now = ⊥
-SaysRefused (Err fault) faults faults_now before now = Says faults faults_now before now (refused_line fault)
+-- ---- the outside, and how a command ended
+
+-- The outside at a moment: the bytes of each name, where the opener tells them, what was written, where the sink tells it,
+-- and their counts of faults.
+pub record Outside : Type 0 where
+  pub bytes_of : List ℕ → Option (List ℕ)
+  pub opens : ℕ
+  pub written : Option (List ℕ)
+  pub writes : ℕ
+
+-- A source as it was left: its bytes, where it tells them, and its count of faults.
+pub record Rest : Type 0 where
+  pub left : Option (List ℕ)
+  pub faults : ℕ
+
+-- how a command ended, and the source that it opened, if it did
+pub record Outcome : Type 0 where
+  pub status : Status
+  pub source : Option Rest
+
+abbrev pub outside : (List ℕ → Option (List ℕ)) → ℕ → Option (List ℕ) → ℕ → Outside
+outside bytes_of opens written writes = record { bytes_of = bytes_of; opens = opens; written = written; writes = writes }
+
+abbrev pub rest_of : {S : Type 0} → (S → Option (List ℕ)) → (S → ℕ) → S → Rest
+rest_of left_of faults_of source = record { left = left_of source; faults = faults_of source }
+
+abbrev pub outcome : {S : Type 0} → (S → Option (List ℕ)) → (S → ℕ) → Status → Option S → Outcome
+outcome left_of faults_of status source = record { status = status; source = option_map (rest_of left_of faults_of) source }
+
+-- this line was written, or the sink failed and took its first bytes
+abbrev pub Writes : Outside → Outside → List ℕ → Type 0
+Writes before now text = Says before.writes now.writes before.written now.written text
+
+-- both counts stand
+abbrev pub Stands : Outside → Outside → Type 0
+Stands before now = (now.opens ≡ before.opens) × (now.writes ≡ before.writes)
+
+-- Which counts stand: both where the command read a source to its end, and where memory was wanting; the opener's where
+-- nothing was opened that failed.
+abbrev pub StandsBy : Status → Outside → Outside → Type 0
+StandsBy Done before now = Stands before now
+StandsBy ReadFault before now = Stands before now
+StandsBy InputFault before now = Stands before now
+StandsBy TooLong before now = Stands before now
+StandsBy Memory before now = Stands before now
+StandsBy OpenFault before now = Unit {0}
+StandsBy _ before now = now.opens ≡ before.opens
+
+-- ---- where no source was opened
+
+abbrev pub SaysRefused : Result Expr QueryFault → Outside → Outside → Type 0
+SaysRefused (Ok expr) before now = ⊥
+SaysRefused (Err fault) before now = Writes before now (refused_line fault)
 
 -- what was written of a refused query
-abbrev pub SaysQuery : Option Wanted → ℕ → ℕ → Option (List ℕ) → Option (List ℕ) → Type 0
-SaysQuery (Some (Scan file query)) faults faults_now before now = SaysRefused (parsed query) faults faults_now before now
-SaysQuery _ faults faults_now before now = ⊥
+abbrev pub SaysQuery : Option Wanted → Outside → Outside → Type 0
+SaysQuery (Some (Scan file query)) before now = SaysRefused (parsed query) before now
+SaysQuery _ before now = ⊥
 
 -- what was written where no source was opened
-abbrev pub SaysEarly : Option Wanted → Status → ℕ → ℕ → Option (List ℕ) → Option (List ℕ) → Type 0
-SaysEarly command Usage faults faults_now before now = Says faults faults_now before now usage_line
-SaysEarly command QueryRefused faults faults_now before now = SaysQuery command faults faults_now before now
-SaysEarly command OpenFault faults faults_now before now = IsSomeAnd command (λ wanted. Says faults faults_now before now (open_line (file_of wanted)))
-SaysEarly command Memory faults faults_now before now = now ≡ before
-SaysEarly command _ faults faults_now before now = ⊥
+abbrev pub SaysEarly : Option Wanted → Status → Outside → Outside → Type 0
+SaysEarly command Usage before now = Writes before now usage_line
+SaysEarly command QueryRefused before now = SaysQuery command before now
+SaysEarly command OpenFault before now = IsSomeAnd command (λ wanted. Writes before now (open_line (file_of wanted)))
+SaysEarly command Memory before now = now.written ≡ before.written
+SaysEarly command _ before now = ⊥
 
--- what was written of a source by the query, if it is one
-abbrev pub TellsScan : Result Expr QueryFault → Status → Option (List ℕ) → Option (List ℕ) → ℕ → Option (List ℕ) → Option (List ℕ) → Type 0
-TellsScan (Ok expr) status bytes left faults before now = TellsOf status bytes left 0 faults (λ steps. scan_text steps expr) before now
-TellsScan (Err fault) status bytes left faults before now = ⊥
+-- ---- where a source was opened
 
--- What was written where a source was opened: the command's text of the bytes of its name, where the opener tells them.
-abbrev pub TellsCommand : Option Wanted → (List ℕ → Option (List ℕ)) → Option (List ℕ) → ℕ → Status → Option (List ℕ) → Option (List ℕ) → Type 0
-TellsCommand (Some (Scan file query)) bytes_of left faults status before now = TellsScan (parsed query) status (bytes_of file) left faults before now
-TellsCommand (Some (Check file)) bytes_of left faults status before now = TellsOf status (bytes_of file) left 0 faults check_text before now
-TellsCommand None bytes_of left faults status before now = ⊥
+-- the bytes of the command's file, where the opener tells them
+abbrev pub bytes_for : Option Wanted → Outside → Option (List ℕ)
+bytes_for None out = None
+bytes_for (Some wanted) out = out.bytes_of (file_of wanted)
+
+-- What was written where a source was opened: the text of the bytes of its name, where the opener tells them, and else of
+-- some steps that end so.
+pub record TellsFile (file : List ℕ) (text : Steps → List ℕ) (before now : Outside) (status : Status) (rest : Rest) : Type 0 where
+  pub told : TellsOf status (before.bytes_of file) rest.left 0 rest.faults text before.written now.written
+  pub untold : TellsSome status text before.written now.written
+  pub reads : ReadsWell status 0 rest.faults
+  pub ends : LeavesNothing status rest.left
+
+abbrev pub TellsScan : Result Expr QueryFault → List ℕ → Outside → Outside → Status → Rest → Type 0
+TellsScan (Ok expr) file before now status rest = TellsFile file (λ steps. scan_text steps expr) before now status rest
+TellsScan (Err fault) file before now status rest = ⊥
+
+-- the same of a command
+abbrev pub TellsCommand : Option Wanted → Outside → Outside → Status → Rest → Type 0
+TellsCommand (Some (Scan file query)) before now status rest = TellsScan (parsed query) file before now status rest
+TellsCommand (Some (Check file)) before now status rest = TellsFile file check_text before now status rest
+TellsCommand None before now status rest = ⊥
 
 -- a source was opened exactly at these statuses, but for want of memory
 abbrev pub WasOpened : Status → Type 0 → Type 0
@@ -101,6 +187,27 @@ WasOpened QueryRefused P = ¬ P
 WasOpened OpenFault P = ¬ P
 WasOpened Memory P = Unit {0}
 WasOpened _ P = P
+
+-- the statuses that the commands have
+abbrev pub IsOfCommand : Status → Type 0
+IsOfCommand Full = ⊥
+IsOfCommand ScriptFault = ⊥
+IsOfCommand _ = Unit {0}
+
+-- What a command did: each status and its cause, what was written, and which counts stand.
+pub record Does (command : Option Wanted) (before now : Outside) (ended : Outcome) : Type 0 where
+  pub known : IsOfCommand ended.status
+  pub usage : Exactly ended.status Usage (command ≡ None)
+  pub refused : Exactly ended.status QueryRefused (IsRefused command)
+  pub opening : ended.status ≡ OpenFault → Rose before.opens now.opens
+  pub write : ended.status ≡ WriteFault → Rose before.writes now.writes
+  pub read : ended.status ≡ ReadFault → IsSomeAnd ended.source (λ rest. Rose 0 rest.faults)
+  pub stands : StandsBy ended.status before now
+  pub opened : WasOpened ended.status (IsSome ended.source)
+  pub scanned : IfSome ended.source (λ rest. TellsCommand command before now ended.status rest)
+  pub early : IfNone ended.source (SaysEarly command ended.status before now)
+
+-- ---- a sound command on a whole log
 
 abbrev pub IsExpr : Result Expr QueryFault → Type 0
 IsExpr (Ok expr) = Unit {0}
@@ -114,11 +221,7 @@ IsSound None = ⊥
 
 -- the bytes are fewer than are taken of a source, and a log without a fault
 abbrev pub IsWhole : List ℕ → Type 0
-IsWhole bytes = (length bytes < 2 ^ 36) × ((steps_of bytes AllThere).end ≡ end.Done)
-
--- the opener tells the bytes of the command's file, and they are a whole log
-abbrev pub HasWhole : Option Wanted → (List ℕ → Option (List ℕ)) → Type 0
-HasWhole command bytes_of = IsSomeAnd command (λ wanted. IsSomeAnd (bytes_of (file_of wanted)) IsWhole)
+IsWhole bytes = (length bytes < 2 ^ 36) × ((steps_of bytes AtEnd).end ≡ end.Done)
 
 abbrev pub IsDone : Status → Type 0
 IsDone Done = Unit {0}
@@ -126,36 +229,39 @@ IsDone Memory = Unit {0}
 IsDone _ = ⊥
 
 -- A sound command on a whole log is done where no count of faults rose, but that want of memory may come in its place.
-abbrev pub Completes : {S : Type 0} → (S → ℕ) → Option Wanted → (List ℕ → Option (List ℕ)) → ℕ → ℕ → ℕ → ℕ → Status → Option S → Type 0
-Completes faults_of command bytes_of opens opens_now writes writes_now status rest =
-    IsSound command → HasWhole command bytes_of → ¬ Rose opens opens_now → ¬ Rose writes writes_now
-    → IfSome rest (λ source. ¬ Rose 0 (faults_of source)) → IsDone status
+abbrev pub Completes : Option Wanted → Outside → Outside → Outcome → Type 0
+Completes command before now ended =
+    IsSound command → IsSomeAnd (bytes_for command before) IsWhole → ¬ Rose before.opens now.opens → ¬ Rose before.writes now.writes
+    → IfSome ended.source (λ rest. ¬ Rose 0 rest.faults) → IsDone ended.status
 
--- what a command did, and what became of its source
-pub record Does {S : Type 0} (left_of : S → Option (List ℕ)) (faults_of : S → ℕ) (command : Option Wanted) (bytes_of : List ℕ → Option (List ℕ))
-    (opens opens_now writes writes_now : ℕ) (before now : Option (List ℕ)) (status : Status) (rest : Option S) : Type 0 where
-  pub usage : Exactly status Usage (command ≡ None)
-  pub refused : Exactly status QueryRefused (IsRefused command)
-  pub opening : status ≡ OpenFault → Rose opens opens_now
-  pub write : status ≡ WriteFault → Rose writes writes_now
-  pub read : status ≡ ReadFault → IsSomeAnd rest (λ source. Rose 0 (faults_of source))
-  pub opened : WasOpened status (IsSome rest)
-  pub scanned : IfSome rest (λ source. TellsCommand command bytes_of (left_of source) (faults_of source) status before now)
-  pub early : IfNone rest (SaysEarly command status writes writes_now before now)
+-- ---- parts of a command
 
 -- what was written where a file was not opened
-abbrev pub SaysUnopened : List ℕ → Status → ℕ → ℕ → Option (List ℕ) → Option (List ℕ) → Type 0
-SaysUnopened file OpenFault faults faults_now before now = Says faults faults_now before now (open_line file)
-SaysUnopened file Memory faults faults_now before now = now ≡ before
-SaysUnopened file _ faults faults_now before now = ⊥
+abbrev pub SaysUnopened : List ℕ → Status → Outside → Outside → Type 0
+SaysUnopened file OpenFault before now = Writes before now (open_line file)
+SaysUnopened file Memory before now = now.written ≡ before.written
+SaysUnopened file _ before now = ⊥
 
 abbrev pub IsOfFile : Status → Type 0
 IsOfFile Usage = ⊥
 IsOfFile QueryRefused = ⊥
+IsOfFile Full = ⊥
+IsOfFile ScriptFault = ⊥
 IsOfFile _ = Unit {0}
 
 -- a refused query was told, or memory was wanting and nothing was written
 abbrev pub Refuses : Status → QueryFault → ℕ → ℕ → Option (List ℕ) → Option (List ℕ) → Type 0
 Refuses QueryRefused fault faults faults_now before now = Says faults faults_now before now (refused_line fault)
-Refuses Memory fault faults faults_now before now = now ≡ before
+Refuses Memory fault faults faults_now before now = (now ≡ before) × (faults_now ≡ faults)
 Refuses _ fault faults faults_now before now = ⊥
+
+-- what became of a file of which this is told
+pub record ReportsFile (file : List ℕ) (text : Steps → List ℕ) (before now : Outside) (ended : Outcome) : Type 0 where
+  pub known : IsOfFile ended.status
+  pub opening : ended.status ≡ OpenFault → Rose before.opens now.opens
+  pub write : ended.status ≡ WriteFault → Rose before.writes now.writes
+  pub read : ended.status ≡ ReadFault → IsSomeAnd ended.source (λ rest. Rose 0 rest.faults)
+  pub stands : StandsBy ended.status before now
+  pub opened : WasOpened ended.status (IsSome ended.source)
+  pub scanned : IfSome ended.source (λ rest. TellsFile file text before now ended.status rest)
+  pub early : IfNone ended.source (SaysUnopened file ended.status before now)

@@ -1,9 +1,6 @@
 //! A command on one file.
-ghost use Rattle.std.specs.Prelude.{◌≡◌, ◌≤◌, ℕ, List, Option, None, Some, Err, IsSome, IfSome, IfNone, IsSomeAnd};
-ghost use Rattle.query_parse.specs.Parsing.{parsed};
-ghost use Rattle.vast_io.specs.Causes.{Rose};
-ghost use Rattle.vast.specs.Causes.{Says, SaysUnopened, TellsOf, WasOpened, Does, IsOfFile, Refuses};
-ghost use Rattle.vast.specs.Texts.{refused_line, usage_line};
+ghost use Rattle.std.specs.Prelude.{◌≡◌, ◌≤◌, None, Some};
+ghost use Rattle.vast.specs.Causes.{Says, Does, Refuses, ReportsFile, outcome, outside};
 ghost use Rattle.vast.specs.Words.{Scan, Check};
 
 use crate::checking::CheckReport;
@@ -25,7 +22,7 @@ pub struct Ended<O: Opener> {
 
 /// Refuses words that are no command.
 pub fn refuse_words<O: Opener, K: Sink>(opener: &O, sink: &mut K) -> Ended<O>
-    ensures does { Does O.Src.left O.Src.faults None (O.bytes_of opener.now) (O.faults opener.now) (O.faults opener.now) (K.faults sink.old) (K.faults sink.new) (K.written sink.old) (K.written sink.new) result.status result.rest }
+    ensures does { Does None (outside (O.bytes_of opener.now) (O.faults opener.now) (K.written sink.old) (K.faults sink.old)) (outside (O.bytes_of opener.now) (O.faults opener.now) (K.written sink.new) (K.faults sink.new)) (outcome O.Src.left O.Src.faults result.status result.rest) }
 {
     say(
         sink,
@@ -42,7 +39,7 @@ pub fn scan_file<O: Opener, K: Sink>(
     opener: &mut O,
     sink: &mut K,
 ) -> Ended<O>
-    ensures does { Does O.Src.left O.Src.faults (Some (Scan file.now query.now)) (O.bytes_of opener.old) (O.faults opener.old) (O.faults opener.new) (K.faults sink.old) (K.faults sink.new) (K.written sink.old) (K.written sink.new) result.status result.rest }
+    ensures does { Does (Some (Scan file.now query.now)) (outside (O.bytes_of opener.old) (O.faults opener.old) (K.written sink.old) (K.faults sink.old)) (outside (O.bytes_of opener.new) (O.faults opener.new) (K.written sink.new) (K.faults sink.new)) (outcome O.Src.left O.Src.faults result.status result.rest) }
 {
     match parse(alloc, query) {
         Ok(expr) => {
@@ -61,7 +58,7 @@ pub fn check_file<O: Opener, K: Sink>(
     opener: &mut O,
     sink: &mut K,
 ) -> Ended<O>
-    ensures does { Does O.Src.left O.Src.faults (Some (Check file.now)) (O.bytes_of opener.old) (O.faults opener.old) (O.faults opener.new) (K.faults sink.old) (K.faults sink.new) (K.written sink.old) (K.written sink.new) result.status result.rest }
+    ensures does { Does (Some (Check file.now)) (outside (O.bytes_of opener.old) (O.faults opener.old) (K.written sink.old) (K.faults sink.old)) (outside (O.bytes_of opener.new) (O.faults opener.new) (K.written sink.new) (K.faults sink.new)) (outcome O.Src.left O.Src.faults result.status result.rest) }
 {
     let report = CheckReport {
         layout: None,
@@ -93,13 +90,7 @@ fn report_file<W: Report + Drop, O: Opener, K: Sink>(
 ) -> Ended<O>
     requires heading { W.heading report ≡ None }
     requires rows { W.rows report ≡ 0 }
-    ensures known { IsOfFile result.status }
-    ensures open { result.status ≡ Status.OpenFault → Rose (O.faults opener.old) (O.faults opener.new) }
-    ensures write { result.status ≡ Status.WriteFault → Rose (K.faults sink.old) (K.faults sink.new) }
-    ensures read { result.status ≡ Status.ReadFault → IsSomeAnd result.rest (λ source. Rose 0 (O.Src.faults source)) }
-    ensures opened { WasOpened result.status (IsSome result.rest) }
-    ensures told { IfSome result.rest (λ source. TellsOf result.status (O.bytes_of opener.old file.now) (O.Src.left source) 0 (O.Src.faults source) (W.behind report) (K.written sink.old) (K.written sink.new)) }
-    ensures early { IfNone result.rest (SaysUnopened file.now result.status (K.faults sink.old) (K.faults sink.new) (K.written sink.old) (K.written sink.new)) }
+    ensures { ReportsFile file.now (W.behind report) (outside (O.bytes_of opener.old) (O.faults opener.old) (K.written sink.old) (K.faults sink.old)) (outside (O.bytes_of opener.new) (O.faults opener.new) (K.written sink.new) (K.faults sink.new)) (outcome O.Src.left O.Src.faults result.status result.rest) }
 {
     let Ok(line) = open_line(alloc, file) else {
         return unopened(Status::Memory);

@@ -4,13 +4,14 @@ ghost use Rattle.vast_io.specs.Causes.{Rose};
 ghost use Rattle.vast_io.specs.Told.{WritesPart};
 ghost use Rattle.vast_value.specs.Headings.{Heading};
 ghost use Rattle.zeek_log.specs.Steps.{Steps, ended, first, step_of};
-ghost use Rattle.vast.specs.Causes.{TellsOf, TellsText, IsOfReport};
+ghost use Rattle.vast.specs.declared.report.WriteEnd.TheVariants.{Memory, Failed as SinkFailed};
+ghost use Rattle.vast.specs.Causes.{TellsOf, TellsSome, TellsText, IsOfReport, ReadsWell, LeavesNothing, SinkStands};
 ghost use Rattle.vast.specs.Reports.{Carries, FitsLast, Moves, heading_after, status_of};
 
 use crate::buffer::Buffer;
 use crate::status::Status;
 use std::alloc::{AllocError, Global};
-use vast_io::{Sink, Source};
+use vast_io::{Failed, Sink, Source};
 use vast_value::Bytes;
 use zeek_log::{Step, ZeekEnd, ZeekReader};
 
@@ -47,6 +48,22 @@ pub enum WriteEnd {
     Memory,
 }
 
+impl From<AllocError> for WriteEnd {
+    ghost from_gives = { λ _ end. end ≡ Memory };
+
+    fn from(_error: AllocError) -> WriteEnd {
+        WriteEnd::Memory
+    }
+}
+
+impl From<Failed> for WriteEnd {
+    ghost from_gives = { λ _ end. end ≡ SinkFailed };
+
+    fn from(_failed: Failed) -> WriteEnd {
+        WriteEnd::Failed
+    }
+}
+
 impl WriteEnd {
     /// The status of a command that ends so.
     pub fn status(self) -> Status
@@ -70,7 +87,11 @@ pub fn write_report<W: Report, S: Source, K: Sink>(
     requires heading { W.heading report.old ≡ None }
     requires rows { W.rows report.old ≡ 0 }
     ensures told { TellsOf result (S.left source.old) (S.left source.new) (S.faults source.old) (S.faults source.new) (W.behind report.old) (K.written sink.old) (K.written sink.new) }
+    ensures untold { TellsSome result (W.behind report.old) (K.written sink.old) (K.written sink.new) }
     ensures known { IsOfReport result }
+    ensures reads { ReadsWell result (S.faults source.old) (S.faults source.new) }
+    ensures ends { LeavesNothing result (S.left source.new) }
+    ensures stands { SinkStands result (K.faults sink.old) (K.faults sink.new) }
     ensures read { result ≡ Status.ReadFault → Rose (S.faults source.old) (S.faults source.new) }
     ensures write { result ≡ Status.WriteFault → Rose (K.faults sink.old) (K.faults sink.new) }
     ensures tells { is_some (S.left source.new) ≡ is_some (S.left source.old) }
@@ -109,15 +130,12 @@ fn write_step<W: Report, K: Sink>(
     ensures heading { OnOk result (W.heading report.new ≡ heading_after (W.heading report.old) (step_of step)) }
     ensures rows { OnOk result (W.rows report.new ≤ W.rows report.old + 1) }
     ensures failed { IsErrOf result WriteEnd.Failed → Rose (K.faults sink.old) (K.faults sink.new) }
+    ensures memory { IsErrOf result WriteEnd.Memory → K.faults sink.new ≡ K.faults sink.old }
     ensures kept { OnOk result (K.faults sink.new ≡ K.faults sink.old) }
 {
-    if report.take(step, &mut buffer.text).is_err() {
-        return Err(WriteEnd::Memory);
-    }
-    match buffer.write_full(sink) {
-        Ok(()) => Ok(()),
-        Err(_) => Err(WriteEnd::Failed),
-    }
+    report.take(step, &mut buffer.text)?;
+    buffer.write_full(sink)?;
+    Ok(())
 }
 
 // Tells the end, writes all that is gathered, and answers the status of a command that ends so. Where memory was wanting
@@ -133,6 +151,7 @@ fn write_end<W: Report, K: Sink>(
     ensures known { IsOfReport result }
     ensures read { result ≡ Status.ReadFault → end ≡ ZeekEnd.ReadFault }
     ensures write { result ≡ Status.WriteFault → Rose (K.faults sink.old) (K.faults sink.new) }
+    ensures stands { SinkStands result (K.faults sink.old) (K.faults sink.new) }
 {
     match end {
         ZeekEnd::Memory => Status::Memory,
@@ -150,6 +169,7 @@ fn write_last<W: Report, K: Sink>(
     ensures known { IsOfReport result }
     ensures read { result ≡ Status.ReadFault → end ≡ ZeekEnd.ReadFault }
     ensures write { result ≡ Status.WriteFault → Rose (K.faults sink.old) (K.faults sink.new) }
+    ensures stands { SinkStands result (K.faults sink.old) (K.faults sink.new) }
 {
     if report.end(end, &mut buffer.text).is_err() {
         return Status::Memory;

@@ -4,7 +4,7 @@ use Rattle.pcap_flow.specs.Keys.{same_key}
 use Rattle.pcap_flow.specs.Sightings.{key_of}
 use Rattle.pcap_flow.specs.Steps.{begun}
 use Rattle.pcap_flow.specs.Tracked.{latest_place}
-use Rattle.pcap_flow.specs.declared.key.Key.{Key}
+use Rattle.pcap_flow.specs.declared.key.FlowKey.{FlowKey}
 use Rattle.pcap_flow.specs.declared.flow.Flow.{Flow}
 use Rattle.pcap_flow.proofs.FlowLemmas.{all_bounded, all_bounded_push, on_ok}
 use Rattle.pcap_flow.proofs.PlaceLemmas.{place_push}
@@ -19,7 +19,7 @@ invariant_of-self-2 c =
     let count : length c.as_slice-place.result.now ≡ length fs = ap length c.as_slice-place.ensures.value in
     let bounded = all_bounded_push (c.self.inside.added + 1) fs c.begun.result (all_bounded c.self.inside.added fs c.self.invariant.1) (c.begun.ensures.more c.self.inside.added) in (
       λ k. updates.0 k
-          ∙ ap (λ (q : Key). cond (same_key q k) (Some (length c.as_slice-place.result.now)) (get same_key c.self.inside.latest k)) c.key.ensures
+          ∙ ap (λ (q : FlowKey). cond (same_key q k) (Some (length c.as_slice-place.result.now)) (get same_key c.self.inside.latest k)) c.key.ensures
           ∙ ap (λ (n : ℕ). cond (same_key (key_of s) k) (Some n) (get same_key c.self.inside.latest k)) count
           ∙ ap (λ (o : Option ℕ). cond (same_key (key_of s) k) (Some (length fs)) o) (c.self.invariant.0 k)
           ∙ sym (place_push k fs (begun s)) ∙ ap (latest_place k) (sym items),
