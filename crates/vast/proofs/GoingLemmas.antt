@@ -510,9 +510,10 @@ some_came : (s : Status) (whole behind : Steps → List ℕ) (held : List ℕ) (
     → TellsText s e (held ++ behind (ended e)) written now → TellsSome s whole before now
 some_came s whole behind held old left mid left_now before written now e took stop so may is tells =
     let text = so.text took stop may ∙ ap (λ (x : Steps). so.sent ++ (held ++ behind x)) is in
-    let ends = so.ends took stop may ∙ ap (λ (x : Steps). x.end) is in
-    (steps_of (so.took ++ took) stop,
-      finish s e (steps_of (so.took ++ took) stop).end (whole (steps_of (so.took ++ took) stop)) (held ++ behind (ended e)) so.sent before written now text ends so.written tells)
+    let ends = so.ends took stop may ∙ ap (λ (x : Steps). x.end) is in (
+      steps_of (so.took ++ took) stop,
+      finish s e (steps_of (so.took ++ took) stop).end (whole (steps_of (so.took ++ took) stop)) (held ++ behind (ended e)) so.sent before written now text ends so.written tells,
+    )
 
 some_fault : (l c : ℕ) (w : ZeekFault) (took : List ℕ) (taken : ℕ) (s : Status) (whole behind : Steps → List ℕ) (held : List ℕ) (old : Reading) (left mid left_now before written now : Option (List ℕ))
     → EndsAnyway old took (end.Fault l c w) ⊎ EndsThere old took left_now taken (end.Fault l c w)
