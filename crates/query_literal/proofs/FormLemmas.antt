@@ -1,17 +1,13 @@
 -- No word has two literal forms: what a word begins with, ends with and holds tells its form.
-use Rattle.std.proofs.Common.{◌≡◌, ℕ, ℤ, ◌+◌, ◌-◌, ◌*◌, ◌/◌, ◌%◌, ◌<◌, ◌≤◌, ◌^◌, Bool, true, false, not, ◌&&◌, ◌||◌, ◌==◌, cond, eqb, if◌then◌else◌, nat_le, List, [], ◌∷◌, ◌++◌, Option, None, Some, is_some, length, take, drop, get_or, refl, ap, sym, ◌∙◌, arith, subst, inl, inr}
-use Rattle.std.specs.Prelude.{codes, find, slice_index}
-use Rattle.std.specs.List.{list_all, list_any, before_first, after_first, position_or_len, slice_split, onto_first}
+use Rattle.std.proofs.Common.{◌≡◌, ℕ, ◌+◌, ◌-◌, ◌*◌, ◌/◌, ◌%◌, Bool, true, false, ◌&&◌, ◌||◌, cond, eqb, nat_le, List, [], ◌∷◌, ◌++◌, Option, None, Some, is_some, length, get_or, refl, ap, ◌∙◌, arith, inl, inr}
+use Rattle.std.specs.Prelude.{slice_index}
+use Rattle.std.specs.List.{list_all, list_any, slice_split, onto_first}
 use Rattle.std.specs.Option.{option_map, option_and_then, option_or}
-use Rattle.std.specs.Str.{bytes_eq}
 use Rattle.std.proofs.lemmas.Bool.{cases_Bool, ne_eqb, eqb-true}
-use Rattle.std.proofs.lemmas.List.{take-append-drop}
 use Rattle.std.proofs.lemmas.List.Folds.{list_all-append, list_all_at}
-use Rattle.std.proofs.lemmas.Slice.Eq.{bytes_eq-Decides}
 use Rattle.std.proofs.lemmas.Grind.{common_steps}
 use Rattle.value_reading.specs.Numbers.{is_digit, number_behind, number_of, if_at_most, number_up_to, begins_with, is_point}
-use Rattle.value_reading.specs.Addresses.{is_colon, is_slash, is_hexadecimal, digit_value, hexadecimal_behind, group_of, short_number, octets, dotted_of, last_groups, groups_to_end, plain_groups, pieces_of, around_gap, eight_groups, with_gap, gapped, grouped_of}
-use Rattle.value_reading.proofs.CutLemmas.{from_first, split_first, other_pieces}
+use Rattle.value_reading.specs.Addresses.{is_colon, is_hexadecimal, digit_value, hexadecimal_behind, group_of, short_number, octets, dotted_of, last_groups, groups_to_end, plain_groups, pieces_of, around_gap, eight_groups, with_gap, gapped, grouped_of}
 
 pub both : (a b : Bool) → (a && b) ≡ true → (a ≡ true) × (b ≡ true)
 both true true h = (refl, refl)

@@ -1,6 +1,6 @@
 -- No word has two literal forms: each form is told by what a word begins with, ends with and holds.
-use Rattle.std.proofs.Common.{◌≡◌, ℕ, ℤ, ◌+◌, ◌-◌, ◌*◌, ◌<◌, ◌≤◌, ◌^◌, Bool, true, false, ◌&&◌, ◌||◌, ◌==◌, cond, eqb, nat_le, zero, suc, inl, inr, List, [], ◌∷◌, ◌++◌, Option, None, Some, is_some, length, take, drop, refl, ap, sym, ◌∙◌, arith, lit≤}
-use Rattle.std.specs.Prelude.{codes, slice_index, count_by}
+use Rattle.std.proofs.Common.{◌≡◌, ℕ, ℤ, ◌+◌, ◌-◌, ◌≤◌, ◌^◌, Bool, true, false, ◌&&◌, ◌||◌, ◌==◌, cond, eqb, nat_le, zero, suc, inl, inr, List, [], ◌∷◌, ◌++◌, Option, None, Some, is_some, length, take, drop, refl, ap, sym, ◌∙◌, arith, lit≤}
+use Rattle.std.specs.Prelude.{slice_index, count_by}
 use Rattle.std.specs.List.{list_all, list_any, before_first, after_first, position_or_len}
 use Rattle.std.specs.Option.{option_map, option_and_then, option_or}
 use Rattle.std.specs.Str.{bytes_eq}
@@ -9,16 +9,15 @@ use Rattle.std.proofs.lemmas.List.{take-append-drop, drop-drop}
 use Rattle.std.proofs.lemmas.List.Folds.{list_all-append}
 use Rattle.std.proofs.lemmas.Slice.Eq.{bytes_eq-Decides}
 use Rattle.std.proofs.lemmas.Grind.{common_steps}
-use Rattle.vast_value.specs.declared.net.Net.{Net}
 use Rattle.vast_value.specs.declared.transport.Transport.{Transport}
 use Rattle.vast_value.specs.declared.transport.Transport.TheVariants.{Unknown, Tcp, Udp, Icmp}
 use Rattle.vast_value.specs.declared.value.Value.TheVariants as value
-use Rattle.value_reading.specs.Numbers.{is_digit, number_of, number_up_to, if_at_most, begins_with, if_i64, is_negative, without_sign, is_point, fraction_of, nanoseconds_of, span_of}
-use Rattle.value_reading.specs.Addresses.{is_colon, is_slash, short_number, dotted_of, grouped_of, mapped, address_of, subnet, subnet_from, subnet_of}
+use Rattle.value_reading.specs.Numbers.{is_digit, number_of, number_up_to, if_at_most, begins_with, if_i64, is_point, span_of}
+use Rattle.value_reading.specs.Addresses.{is_slash, short_number, dotted_of, grouped_of, mapped, address_of, subnet, subnet_from, subnet_of}
 use Rattle.value_reading.specs.Ports.{transport_named, transport_marked, transport_name, port_by, from_slash, marked_port_of}
 use Rattle.value_reading.proofs.CutLemmas.{from_first, from-yes, from-no, before-no}
 use Rattle.query_literal.specs.Literals.{behind_byte, before_byte, moment_of, count_literal, int_literal, span_literal, port_literal, addr_literal, subnet_literal, time_literal, literal_forms}
-use Rattle.query_literal.proofs.FormLemmas.{both, first_is_not, last_is_not, none_of, weaker, number_digits, up_to_digits, then_some, short_digits, map_some, or_some, is_mark, is_address_byte, dotted_bytes, dotted_mark, grouped_bytes}
+use Rattle.query_literal.proofs.FormLemmas.{first_is_not, last_is_not, none_of, weaker, number_digits, up_to_digits, then_some, map_some, or_some, is_mark, is_address_byte, dotted_bytes, dotted_mark, grouped_bytes}
 
 -- What tells a form: the last byte is an `s`, the first one a sign; a slash; a point or a colon before it, or anywhere
 abbrev ends_seconds : List ℕ → Bool
