@@ -5,6 +5,7 @@
 #![tactic(auto)]
 
 mod batch;
+mod format;
 mod law;
 mod packed;
 mod place;
@@ -18,6 +19,7 @@ mod unread;
 mod writing;
 
 pub use batch::Batch;
+pub use format::Format;
 pub use law::one_spelling;
 pub use packed::{Packed, encode, unpack};
 pub use rows::Rows;
