@@ -1,5 +1,6 @@
 //! The formats of a batch's bytes.
 ghost use Rattle.std.specs.Prelude.{◌≡◌};
+ghost use Rattle.event_batch.specs.Reading.{format_coded};
 ghost use Rattle.event_batch.specs.Spelling.{format_code};
 
 /// A format of a batch's bytes.
@@ -19,6 +20,18 @@ impl Format {
         match self {
             Format::First => 1,
             Format::Second => 2,
+        }
+    }
+
+    /// The format with this first byte, which is 1 or 2.
+    #[tactic(auto, unfolding(crate::specs::Reading::format_coded))]
+    pub(crate) fn coded(code: u8) -> Option<Format>
+        ensures { result ≡ format_coded code }
+    {
+        match code {
+            1 => Some(Format::First),
+            2 => Some(Format::Second),
+            _ => None,
         }
     }
 }
