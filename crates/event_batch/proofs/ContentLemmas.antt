@@ -7,7 +7,6 @@ use Rattle.std.specs.Str.{bytes_eq}
 use Rattle.std.proofs.lemmas.Bool.{le-leb, lt-ltb, ltb-false, ltb-true}
 use Rattle.std.proofs.lemmas.List.{length-map}
 use Rattle.vast_value.specs.declared.value.Value.{Value}
-use Rattle.vast_value.specs.declared.value.Value.TheVariants as value
 use Rattle.vast_value.specs.declared.cell.Cell.{Cell}
 use Rattle.vast_value.specs.declared.cell.Cell.TheVariants.{Unset, One, Many}
 use Rattle.vast_value.specs.declared.column.Column.{Column}
@@ -18,8 +17,7 @@ use Rattle.vast_value.specs.Layouts.{is_empty, layout_fault}
 use Rattle.vast_value.specs.Headings.{Field, Heading, field_of, heading_of, field_fault, fields_fault, heading_fault, fits_fields}
 use Rattle.vast_value.proofs.HeadingLemmas.{fits_fields-map, heading_fault-map}
 use Rattle.event_batch.specs.declared.batch.Batch.{Batch}
-use Rattle.event_batch.specs.declared.format.Format.{Format}
-use Rattle.event_batch.specs.declared.format.Format.TheVariants.{First, Second}
+use Rattle.event_batch.specs.declared.format.Format.TheVariants.{Second}
 use Rattle.event_batch.specs.Contents.{Spelled, content_of, is_heading, is_short_field, is_content, element_has_place, cell_has_place, is_spellable}
 use Rattle.event_batch.specs.Sizes.{is_batch_size}
 

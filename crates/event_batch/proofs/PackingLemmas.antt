@@ -1,5 +1,5 @@
 -- A spelling says what was spelled.
-use Rattle.std.proofs.Common.{◌≡◌, ℕ, true, ◌&&◌, List, map, length, None, Some, refl, ap, sym, ◌∙◌, subst, ltb, ◌^◌}
+use Rattle.std.proofs.Common.{◌≡◌, ℕ, true, List, map, length, None, Some, refl, ap, sym, ◌∙◌, subst}
 use Rattle.std.specs.List.{list_all}
 use Rattle.vast_value.specs.declared.column.Column.{Column}
 use Rattle.vast_value.specs.declared.cell.Cell.{Cell}
@@ -15,7 +15,7 @@ use Rattle.event_batch.specs.declared.packed_end.PackedEnd.TheVariants.{NotABatc
 use Rattle.event_batch.specs.Answers.{Fails}
 use Rattle.event_batch.specs.Contents.{Spelled, is_spellable}
 use Rattle.event_batch.specs.Sizes.{is_batch_size, rows_fit}
-use Rattle.event_batch.specs.Spelling.{spelling, Spells}
+use Rattle.event_batch.specs.Spelling.{Spells}
 use Rattle.event_batch.specs.Reading.{text_at, number_at, many_at, field_at, checked, heading_at, content_at}
 use Rattle.event_batch.specs.Packings.{said_in, IsSpelled}
 use Rattle.event_batch.proofs.ContentLemmas.{parts_of, rows_fit_fields}

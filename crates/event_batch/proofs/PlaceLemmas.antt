@@ -2,7 +2,7 @@
 use Rattle.std.proofs.Common.{◌≡◌, ℕ, suc, ◌-◌, ◌+◌, ◌<◌, ◌≤◌, ◌^◌, true, false, ◌&&◌, ltb, leb, List, [], ◌∷◌, ◌++◌, length, Option, None, Some, refl, sym, ap, ◌∙◌, append_assoc, arith}
 use Rattle.std.specs.Prelude.{is_none}
 use Rattle.std.specs.List.{list_all, flat_map}
-use Rattle.std.proofs.lemmas.Bool.{leb-true, le-ltb, ltb-true}
+use Rattle.std.proofs.lemmas.Bool.{leb-true, le-ltb}
 use Rattle.std.proofs.lemmas.List.{length-append, drop_at}
 use Rattle.vast_value.specs.Headings.{Field, heading_fault}
 use Rattle.vast_value.specs.ValueBytes.{number, text}

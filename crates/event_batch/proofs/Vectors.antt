@@ -1,18 +1,16 @@
 -- Bytes of batches, computed by the prover. Each fact is false where its definition is wrong.
-use Rattle.std.proofs.Common.{◌≡◌, ℕ, pos, negsuc, Bool, true, false, List, [], ◌∷◌, ◌++◌, Option, None, Some, is_some, codes, map, refl}
+use Rattle.std.proofs.Common.{◌≡◌, ℕ, pos, Bool, true, false, List, [], ◌∷◌, ◌++◌, None, Some, is_some, codes, map, refl}
 use Rattle.vast_value.specs.declared.kind.Elem.TheVariants as elem
 use Rattle.vast_value.specs.declared.kind.Kind.{Kind}
 use Rattle.vast_value.specs.declared.kind.Kind.TheVariants as kind
-use Rattle.vast_value.specs.declared.value.Value.{Value}
 use Rattle.vast_value.specs.declared.value.Value.TheVariants as value
 use Rattle.vast_value.specs.declared.cell.Cell.{Cell}
 use Rattle.vast_value.specs.declared.cell.Cell.TheVariants as cell
 use Rattle.vast_value.specs.declared.transport.Transport.TheVariants.{Unknown, Tcp, Udp}
 use Rattle.vast_value.specs.Nets.{net_of}
 use Rattle.vast_value.specs.ValueBytes.{number}
-use Rattle.event_batch.specs.declared.format.Format.{Format}
 use Rattle.event_batch.specs.declared.format.Format.TheVariants.{First, Second}
-use Rattle.event_batch.specs.Contents.{Content, Spelled, is_content, is_spellable}
+use Rattle.event_batch.specs.Contents.{Content, is_content, is_spellable}
 use Rattle.event_batch.specs.Sizes.{is_batch_size}
 use Rattle.event_batch.specs.Spelling.{kind_code, cell_bytes, spelling}
 use Rattle.event_batch.specs.Reading.{byte_at, number_at, signed_at, text_at, bool_at, net_at, port_at, value_at, element_at, many_at, container_at, set_cell_at, cell_at, row_at, elem_of_code, kind_of_code, field_at, heading_at, rows_at, format_coded, content_at}

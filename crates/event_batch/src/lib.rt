@@ -20,7 +20,7 @@ mod writing;
 
 pub use batch::Batch;
 pub use format::Format;
-pub use law::{a_batch_says_a_content, one_spelling};
+pub use law::{each_batch_is_spellable, one_spelling};
 pub use packed::{Packed, encode, unpack};
 pub use packed_end::PackedEnd;
 pub use rows::Rows;
