@@ -5,3 +5,4 @@ pub mod LoopLemmas
 pub mod PackingLemmas
 pub mod PlaceLemmas
 pub mod ReadingLemmas
+pub mod SpelledLemmas

@@ -1,0 +1,340 @@
+-- What is read of bytes is what they spell.
+use Rattle.std.proofs.Common.{◌≡◌, ℕ, ℤ, pos, negsuc, zero, suc, ◌+◌, ◌-◌, ◌*◌, ◌%◌, ◌<◌, ◌≤◌, ◌^◌, Bool, true, false, cond, ◌&&◌, ◌||◌, ltb, leb, eqb, not, List, [], ◌∷◌, ◌++◌, length, take, drop, Option, None, Some, refl, ap, sym, subst, ◌∙◌, append_assoc, mod-lt, arith}
+use Rattle.std.specs.Int.{w64, cast_signed, cast_unsigned, byte_at as low_byte, bytes_low_first}
+use Rattle.std.specs.Int.RustNames.{FitsSigned}
+use Rattle.std.specs.List.{list_all, flat_map, slice_get}
+use Rattle.std.specs.Prelude.{is_none, is_some, option_map}
+use Rattle.std.proofs.lemmas.Bool.{leb-true, le-leb, le-ltb, lt-ltb, ltb-true, ltb-false, eqb-true, and_parts, and_from, or_parts, not_from_false, cond_both}
+use Rattle.std.proofs.lemmas.Int.{of_z-to_z, ints}
+use Rattle.std.proofs.lemmas.List.{length-take-le, take-append-drop, append-nil}
+use Rattle.std.proofs.lemmas.List.Folds.{list_all-append}
+use Rattle.std.proofs.lemmas.Option.{same_Some, cond_some}
+use Rattle.std.proofs.Math.Facts.{sfits_to_z, Fits-of_lt}
+use Rattle.std.proofs.Math.Nat.{pow-suc}
+use Rattle.byteorder.specs.Endian.{little_number}
+use Rattle.byteorder.specs.Numbers.{little_from-cons, little_number-reads_back, length-bytes_low_first}
+use Rattle.vast_value.specs.declared.kind.Elem.{Elem}
+use Rattle.vast_value.specs.declared.kind.Elem.TheVariants as elem
+use Rattle.vast_value.specs.declared.kind.Kind.{Kind}
+use Rattle.vast_value.specs.declared.kind.Kind.TheVariants as kind
+use Rattle.vast_value.specs.declared.net.Net.{Net}
+use Rattle.vast_value.specs.declared.transport.Transport.{Transport}
+use Rattle.vast_value.specs.declared.transport.Transport.TheVariants.{Unknown}
+use Rattle.vast_value.specs.declared.value.Value.{Value}
+use Rattle.vast_value.specs.declared.value.Value.TheVariants as value
+use Rattle.vast_value.specs.declared.cell.Cell.{Cell}
+use Rattle.vast_value.specs.declared.cell.Cell.TheVariants as cell
+use Rattle.vast_value.specs.Fit.{is_byte, is_i64, is_short, is_bounded, is_bounded_element, is_small}
+use Rattle.vast_value.specs.Headings.{Field, Heading, heading_fault, fits_field, fits_fields}
+use Rattle.vast_value.specs.Kinds.{elem_of, elem_eq, is_element, is_lone_unset, has_kind}
+use Rattle.vast_value.specs.Nets.{net_of, net_by}
+use Rattle.vast_value.specs.Ports.{transport_code, transport_coded}
+use Rattle.vast_value.specs.ValueBytes.{number, text, value_bytes}
+use Rattle.event_batch.specs.declared.format.Format.{Format}
+use Rattle.event_batch.specs.declared.format.Format.TheVariants.{First, Second}
+use Rattle.event_batch.specs.Contents.{Content, Spelled, has_place, element_has_place, cell_has_place, is_short_field, is_heading, is_spellable}
+use Rattle.event_batch.specs.Sizes.{is_batch_size}
+use Rattle.event_batch.specs.Spelling.{elem_code, kind_code, format_code, value_bytes_in, element_bytes, cell_bytes, row_bytes, field_bytes, heading_bytes, content_bytes, spelling, Spells}
+use Rattle.event_batch.specs.Reading.{◌>>=◌, byte_at, number_at, signed_at, text_at, bool_at, net_at, reads_as, port_at, value_at, element_at, many_at, container_at, set_cell_at, cell_at, row_at, every_elem, elem_of_code, kind_of_code, field_at, checked, heading_at, rows_at, format_coded, content_at}
+
+abbrev AreBytes : List ℕ → Type 0
+AreBytes bytes = list_all is_byte bytes ≡ true
+
+-- a good value and the bytes behind it: the bytes are those of the value and the ones behind
+record InFront {A : Type 0} (spell : A → List ℕ) (good : A → Bool) (bytes : List ℕ) (read : A × List ℕ) : Type 0 where
+  whole : bytes ≡ spell read.0 ++ read.1
+  fine : good read.0 ≡ true
+  behind : AreBytes read.1
+
+-- what this reader reads of bytes stands in front of them
+abbrev Reads : {A : Type 0} → (List ℕ → Option (A × List ℕ)) → (A → List ℕ) → (A → Bool) → Type 0
+Reads {A = A} one spell good = (bytes : List ℕ) (read : A × List ℕ) → AreBytes bytes → one bytes ≡ Some read → InFront spell good bytes read
+
+bind_some : {A B : Type 0} (x : Option A) (f : A → Option B) (y : B) → (x >>= f) ≡ Some y → (a : A) × (x ≡ Some a) × (f a ≡ Some y)
+bind_some (Some a) f y e = (a, refl, e)
+bind_some None f y e = absurd cc
+
+-- what holds of a value holds of the one that is read
+given : {A : Type 0} (P : A → Type 0) (x y : A) → Some x ≡ Some y → P x → P y
+given P x y e p = subst P (same_Some x y e) p
+
+past_test : {A : Type 0} (b : Bool) (o : Option A) (y : A) → cond b None o ≡ Some y → (b ≡ false) × (o ≡ Some y)
+past_test true o y e = absurd cc
+past_test false o y e = (refl, e)
+
+behind_of : (front rest bytes : List ℕ) → bytes ≡ front ++ rest → AreBytes bytes → AreBytes rest
+behind_of front rest bytes e h = (and_parts (list_all is_byte front) (list_all is_byte rest) (sym (list_all-append is_byte front rest) ∙ ap (list_all is_byte) (sym e) ∙ h)).1
+
+front_of : (front rest bytes : List ℕ) → bytes ≡ front ++ rest → AreBytes bytes → AreBytes front
+front_of front rest bytes e h = (and_parts (list_all is_byte front) (list_all is_byte rest) (sym (list_all-append is_byte front rest) ∙ ap (list_all is_byte) (sym e) ∙ h)).0
+
+byte_read : Reads byte_at (λ b. b ∷ []) is_byte
+unfolding byte_at
+byte_read [] read h e = absurd cc
+byte_read (b ∷ rest) read h e =
+    let parts = and_parts (is_byte b) (list_all is_byte rest) h in
+    given (InFront (λ (x : ℕ). x ∷ []) is_byte (b ∷ rest)) (b, rest) read e (record { whole = refl; fine = parts.0; behind = parts.1 })
+
+-- bytes with one number are one list as far as the number goes
+one_front : (n : ℕ) (xs ys : List ℕ) → length xs ≡ n → n ≤ length ys → AreBytes xs → AreBytes ys → little_number n xs ≡ little_number n ys → ys ≡ xs ++ drop n ys
+one_front zero [] ys l m p q e = refl
+one_front zero (x ∷ xs) ys l m p q e = absurd (omega arith)
+one_front (suc n) [] ys l m p q e = absurd (omega arith)
+one_front (suc n) (x ∷ xs) [] l m p q e = absurd (omega arith)
+one_front (suc n) (x ∷ xs) (y ∷ ys) l m p q e =
+    let a = and_parts (is_byte x) (list_all is_byte xs) p in
+    let b = and_parts (is_byte y) (list_all is_byte ys) q in
+    let x_low = ltb-true x 256 a.0 in
+    let y_low = ltb-true y 256 b.0 in
+    let x_moved = little_from-cons 0 n x xs in
+    let y_moved = little_from-cons 0 n y ys in
+    let first : y ≡ x = omega arith in
+    let others : little_number n xs ≡ little_number n ys = omega arith in
+    let rest = one_front n xs ys (omega arith) (omega arith) a.1 b.1 others in
+    ap (λ (z : ℕ). z ∷ ys) first ∙ ap (λ (zs : List ℕ). x ∷ zs) rest
+
+low_byte_fits : (i x : ℕ) → is_byte (low_byte i x) ≡ true
+low_byte_fits zero x = lt-ltb _ 256 (mod-lt x (omega arith))
+low_byte_fits (suc i) x = lt-ltb _ 256 (mod-lt _ (omega arith))
+
+low_bytes_fit : (i n x : ℕ) → AreBytes (bytes_low_first i n x)
+low_bytes_fit i zero x = refl
+low_bytes_fit i (suc n) x = and_from _ _ (low_byte_fits i x) (low_bytes_fit (suc i) n x)
+
+number_below : (n : ℕ) (bytes : List ℕ) → n ≤ length bytes → AreBytes bytes → little_number n bytes < 256 ^ n
+number_below zero bytes m h = omega arith
+number_below (suc n) [] m h = absurd (omega arith)
+number_below (suc n) (b ∷ bytes) m h =
+    let parts = and_parts (is_byte b) (list_all is_byte bytes) h in
+    let low = ltb-true b 256 parts.0 in
+    let moved = little_from-cons 0 n b bytes in
+    let rest = number_below n bytes (omega arith) parts.1 in
+    let power = pow-suc 256 n in
+    omega arith
+
+abbrev is_below : ℕ → ℕ → Bool
+is_below n x = ltb x (256 ^ n)
+
+number_read : (n : ℕ) → Reads (number_at n) (number n) (is_below n)
+unfolding number_at number
+number_read n bytes read h e =
+    let parts = past_test (ltb (length bytes) n) (Some (little_number n bytes, drop n bytes)) read e in
+    let long : n ≤ length bytes = ltb-false (length bytes) n parts.0 in
+    let x = little_number n bytes in
+    let below = number_below n bytes long h in
+    let spelled = bytes_low_first 0 n x in
+    let again : little_number n spelled ≡ x = ap (little_number n) (sym (append-nil spelled)) ∙ little_number-reads_back n x [] below in
+    let whole = one_front n spelled bytes (length-bytes_low_first 0 n x) long (low_bytes_fit 0 n x) h again in
+    given (InFront (number n) (is_below n) bytes) (x, drop n bytes) read parts.1
+        (record { whole = whole; fine = lt-ltb x (256 ^ n) below; behind = behind_of spelled (drop n bytes) bytes whole h })
+
+is_i64_of : (z : ℤ) → FitsSigned w64 z → is_i64 z ≡ true
+is_i64_of (pos n) h = lt-ltb n (2 ^ 63) (omega (arith, ints))
+is_i64_of (negsuc n) h = lt-ltb n (2 ^ 63) (omega (arith, ints))
+
+signed_read : Reads signed_at (λ z. number 8 (cast_unsigned w64 z)) is_i64
+unfolding signed_at
+signed_read bytes read h e =
+    let n = bind_some _ _ read e in
+    let r = number_read 8 bytes n.0 h n.1 in
+    let low : n.0.0 < 2 ^ 64 = ltb-true n.0.0 (2 ^ 64) r.fine in
+    let same : cast_unsigned w64 (cast_signed w64 n.0.0) ≡ n.0.0 = of_z-to_z w64 n.0.0 low in
+    let whole : bytes ≡ number 8 (cast_unsigned w64 (cast_signed w64 n.0.0)) ++ n.0.1 = r.whole ∙ ap (λ (x : ℕ). number 8 x ++ n.0.1) (sym same) in
+    given (InFront (λ (z : ℤ). number 8 (cast_unsigned w64 z)) is_i64 bytes) (cast_signed w64 n.0.0, n.0.1) read n.2
+        (record { whole = whole; fine = is_i64_of (cast_signed w64 n.0.0) (sfits_to_z {w = w64} {n = n.0.0} (Fits-of_lt {w = w64} {n = n.0.0} low)); behind = r.behind })
+
+text_read : Reads text_at text is_short
+unfolding text_at
+text_read bytes read h e =
+    let n = bind_some _ _ read e in
+    let r = number_read 4 bytes n.0 h n.1 in
+    let k = n.0.0 in
+    let rest = n.0.1 in
+    let parts = past_test (ltb (2 ^ 24) k || ltb (length rest) k) (Some (take k rest, drop k rest)) read n.2 in
+    let sizes = or_parts (ltb (2 ^ 24) k) (ltb (length rest) k) parts.0 in
+    let few : k ≤ 2 ^ 24 = ltb-false (2 ^ 24) k sizes.0 in
+    let long : k ≤ length rest = ltb-false (length rest) k sizes.1 in
+    let count : length (take k rest) ≡ k = length-take-le k rest long in
+    let split : rest ≡ take k rest ++ drop k rest = sym (take-append-drop k rest) in
+    let whole : bytes ≡ text (take k rest) ++ drop k rest =
+    r.whole ∙ ap (λ (x : List ℕ). number 4 k ++ x) split ∙ ap (λ (x : ℕ). number 4 x ++ (take k rest ++ drop k rest)) (sym count) ∙ sym (append_assoc (number 4 (length (take k rest))) (take k rest) (drop k rest)) in
+    let fine : is_short (take k rest) ≡ true = and_from _ _ (le-leb (length (take k rest)) (2 ^ 24) (omega arith)) (front_of (take k rest) (drop k rest) rest split r.behind) in
+    given (InFront text is_short bytes) (take k rest, drop k rest) read parts.1
+        (record { whole = whole; fine = fine; behind = behind_of (take k rest) (drop k rest) rest split r.behind })
+
+abbrev always : {A : Type 0} → A → Bool
+always x = true
+
+bool_read : Reads bool_at (λ b. value_bytes (value.Bool b)) always
+unfolding bool_at
+bool_read [] read h e = absurd cc
+bool_read (zero ∷ rest) read h e = given (InFront (λ (b : Bool). value_bytes (value.Bool b)) always (zero ∷ rest)) (false, rest) read e (record { whole = refl; fine = refl; behind = (and_parts (is_byte zero) (list_all is_byte rest) h).1 })
+bool_read (suc zero ∷ rest) read h e = given (InFront (λ (b : Bool). value_bytes (value.Bool b)) always (1 ∷ rest)) (true, rest) read e (record { whole = refl; fine = refl; behind = (and_parts (is_byte 1) (list_all is_byte rest) h).1 })
+bool_read (suc (suc b) ∷ rest) read h e = absurd cc
+
+net_parts : (base bits : ℕ) (a b : Bool) (p : leb bits 128 ≡ a) (q : eqb (base % 2 ^ (128 - bits)) 0 ≡ b) (n : Net) → net_by base bits a b p q ≡ Some n → (n.base ≡ base) × (n.bits ≡ bits)
+net_parts base bits true true p q n e = given (λ (m : Net). (m.base ≡ base) × (m.bits ≡ bits)) _ n e (refl, refl)
+net_parts base bits true false p q n e = absurd cc
+net_parts base bits false b p q n e = absurd cc
+
+net_of_parts : (base bits : ℕ) (n : Net) → net_of base bits ≡ Some n → (n.base ≡ base) × (n.bits ≡ bits)
+unfolding net_of
+net_of_parts base bits n e = net_parts base bits _ _ refl refl n e
+
+abbrev net_bytes : Net → List ℕ
+net_bytes n = number 16 n.base ++ n.bits ∷ []
+
+abbrev is_low_net : Net → Bool
+is_low_net n = ltb n.base (2 ^ 128)
+
+net_read : Reads net_at net_bytes is_low_net
+unfolding net_at
+net_read bytes read h e =
+    let base = bind_some _ _ read e in
+    let r = number_read 16 bytes base.0 h base.1 in
+    let bits = bind_some _ _ read base.2 in
+    let s = byte_read base.0.1 bits.0 r.behind bits.1 in
+    let net = bind_some _ _ read bits.2 in
+    let n = net.0 in
+    let same = net_of_parts base.0.0 bits.0.0 n net.1 in
+    let spelled : bytes ≡ number 16 base.0.0 ++ bits.0.0 ∷ bits.0.1 = r.whole ∙ ap (λ (x : List ℕ). number 16 base.0.0 ++ x) s.whole in
+    let whole : bytes ≡ net_bytes n ++ bits.0.1 = spelled ∙ rw (same.0, same.1) (sym (append_assoc (number 16 base.0.0) (bits.0.0 ∷ []) bits.0.1)) in
+    let fine : is_low_net n ≡ true = ap (λ (x : ℕ). ltb x (2 ^ 128)) same.0 ∙ r.fine in
+    given (InFront net_bytes is_low_net bytes) (n, bits.0.1) read net.2 (record { whole = whole; fine = fine; behind = s.behind })
+
+coded_parts : (n : ℕ) (over : Transport) → transport_coded n ≡ Some over → transport_code over ≡ n
+coded_parts zero over e = given (λ (t : Transport). transport_code t ≡ 0) _ over e refl
+coded_parts (suc zero) over e = given (λ (t : Transport). transport_code t ≡ 1) _ over e refl
+coded_parts (suc (suc zero)) over e = given (λ (t : Transport). transport_code t ≡ 2) _ over e refl
+coded_parts (suc (suc (suc zero))) over e = given (λ (t : Transport). transport_code t ≡ 3) _ over e refl
+coded_parts (suc (suc (suc (suc n)))) over e = absurd cc
+
+-- a value of a kind that the format can spell
+abbrev fits_value : Format → Elem → Value → Bool
+fits_value f e v = elem_eq (elem_of v) e && (is_bounded v && has_place f v)
+
+port_read : (f : Format) → Reads (port_at f) (value_bytes_in f) (fits_value f elem.Port)
+unfolding port_at
+port_read First bytes read h e =
+    let n = bind_some _ _ read e in
+    let r = number_read 2 bytes n.0 h n.1 in
+    let low : ltb n.0.0 (2 ^ 16) ≡ true = r.fine in
+    given (InFront (value_bytes_in First) (fits_value First elem.Port) bytes) (value.Port n.0.0 Unknown, n.0.1) read n.2
+        (record { whole = r.whole; fine = and_from _ _ low refl; behind = r.behind })
+port_read Second bytes read h e =
+    let n = bind_some _ _ read e in
+    let r = number_read 2 bytes n.0 h n.1 in
+    let code = bind_some _ _ read n.2 in
+    let s = byte_read n.0.1 code.0 r.behind code.1 in
+    let over = bind_some _ _ read code.2 in
+    let same = coded_parts code.0.0 over.0 over.1 in
+    let low : ltb n.0.0 (2 ^ 16) ≡ true = r.fine in
+    let spelled : bytes ≡ number 2 n.0.0 ++ code.0.0 ∷ code.0.1 = r.whole ∙ ap (λ (x : List ℕ). number 2 n.0.0 ++ x) s.whole in
+    let whole : bytes ≡ (number 2 n.0.0 ++ transport_code over.0 ∷ []) ++ code.0.1 = spelled ∙ rw same (sym (append_assoc (number 2 n.0.0) (code.0.0 ∷ []) code.0.1)) in
+    given (InFront (value_bytes_in Second) (fits_value Second elem.Port) bytes) (value.Port n.0.0 over.0, code.0.1) read over.2
+        (record { whole = whole; fine = and_from _ _ low refl; behind = s.behind })
+
+-- a value whose bytes are the same in each format
+abbrev IsPlain : Value → Type 0
+IsPlain v = (f : Format) → (value_bytes_in f v ≡ value_bytes v) × (has_place f v ≡ true)
+
+-- a value of one kind is read as what it is made of
+made_of : {A : Type 0} (f : Format) (e : Elem) (make : A → Value) (one : List ℕ → Option (A × List ℕ)) (spell : A → List ℕ) (good : A → Bool)
+    → Reads one spell good
+    → ((x : A) → IsPlain (make x)) → ((x : A) → value_bytes (make x) ≡ spell x) → ((x : A) → good x ≡ true → (elem_eq (elem_of (make x)) e && is_bounded (make x)) ≡ true)
+    → Reads (λ bytes. reads_as make (one bytes)) (value_bytes_in f) (fits_value f e)
+made_of {A = A} f e make one spell good reads plain same kept bytes read h found =
+    let x = bind_some _ _ read found in
+    let r = reads bytes x.0 h x.1 in
+    let v = make x.0.0 in
+    let p = plain x.0.0 f in
+    let whole : bytes ≡ value_bytes_in f v ++ x.0.1 = r.whole ∙ ap (λ (bs : List ℕ). bs ++ x.0.1) (sym (p.0 ∙ same x.0.0)) in
+    let k = and_parts (elem_eq (elem_of v) e) (is_bounded v) (kept x.0.0 r.fine) in
+    given (InFront (value_bytes_in f) (fits_value f e) bytes) (v, x.0.1) read x.2
+        (record { whole = whole; fine = and_from _ _ k.0 (and_from _ _ k.1 p.1); behind = r.behind })
+
+plain_bool : (b : Bool) → IsPlain (value.Bool b)
+plain_bool b First = (refl, refl)
+plain_bool b Second = (refl, refl)
+
+plain_count : (n : ℕ) → IsPlain (value.Count n)
+plain_count n First = (refl, refl)
+plain_count n Second = (refl, refl)
+
+plain_int : (z : ℤ) → IsPlain (value.Int z)
+plain_int z First = (refl, refl)
+plain_int z Second = (refl, refl)
+
+plain_time : (z : ℤ) → IsPlain (value.Time z)
+plain_time z First = (refl, refl)
+plain_time z Second = (refl, refl)
+
+plain_span : (z : ℤ) → IsPlain (value.Span z)
+plain_span z First = (refl, refl)
+plain_span z Second = (refl, refl)
+
+plain_text : (t : List ℕ) → IsPlain (value.Text t)
+plain_text t First = (refl, refl)
+plain_text t Second = (refl, refl)
+
+plain_name : (t : List ℕ) → IsPlain (value.Name t)
+plain_name t First = (refl, refl)
+plain_name t Second = (refl, refl)
+
+plain_addr : (a : ℕ) → IsPlain (value.Addr a)
+plain_addr a First = (refl, refl)
+plain_addr a Second = (refl, refl)
+
+plain_subnet : (n : Net) → IsPlain (value.Subnet n)
+plain_subnet n First = (refl, refl)
+plain_subnet n Second = (refl, refl)
+
+value_read : (f : Format) (e : Elem) → Reads (value_at f e) (value_bytes_in f) (fits_value f e)
+unfolding value_at
+value_read f elem.Bool = made_of f elem.Bool value.Bool bool_at (λ b. value_bytes (value.Bool b)) always bool_read plain_bool (λ b. refl) (λ b h. refl)
+value_read f elem.Count = made_of f elem.Count value.Count (number_at 8) (number 8) (is_below 8) (number_read 8) plain_count (λ n. refl) (λ n h. h)
+value_read f elem.Int = made_of f elem.Int value.Int signed_at (λ z. number 8 (cast_unsigned w64 z)) is_i64 signed_read plain_int (λ z. refl) (λ z h. h)
+value_read f elem.Time = made_of f elem.Time value.Time signed_at (λ z. number 8 (cast_unsigned w64 z)) is_i64 signed_read plain_time (λ z. refl) (λ z h. h)
+value_read f elem.Span = made_of f elem.Span value.Span signed_at (λ z. number 8 (cast_unsigned w64 z)) is_i64 signed_read plain_span (λ z. refl) (λ z h. h)
+value_read f elem.Text = made_of f elem.Text value.Text text_at text is_short text_read plain_text (λ t. refl) (λ t h. h)
+value_read f elem.Name = made_of f elem.Name value.Name text_at text is_short text_read plain_name (λ t. refl) (λ t h. h)
+value_read f elem.Addr = made_of f elem.Addr value.Addr (number_at 16) (number 16) (is_below 16) (number_read 16) plain_addr (λ a. refl) (λ a h. h)
+value_read f elem.Subnet = made_of f elem.Subnet value.Subnet net_at net_bytes is_low_net net_read plain_subnet (λ n. refl) (λ n h. h)
+value_read f elem.Port = port_read f
+
+-- an element of a kind that the format can spell
+abbrev fits_element : Format → Elem → Option Value → Bool
+fits_element f e x = is_element e x && (is_bounded_element x && element_has_place f x)
+
+element_read : (f : Format) (e : Elem) → Reads (element_at f e) (element_bytes f) (fits_element f e)
+unfolding element_at
+element_read f e [] read h found = absurd cc
+element_read f e (zero ∷ rest) read h found =
+    given (InFront (element_bytes f) (fits_element f e) (zero ∷ rest)) (None, rest) read found (record { whole = refl; fine = refl; behind = (and_parts (is_byte zero) (list_all is_byte rest) h).1 })
+element_read f e (suc zero ∷ rest) read h found =
+    let v = bind_some _ _ read found in
+    let r = value_read f e rest v.0 (and_parts (is_byte 1) (list_all is_byte rest) h).1 v.1 in
+    given (InFront (element_bytes f) (fits_element f e) (suc zero ∷ rest)) (Some v.0.0, v.0.1) read v.2 (record { whole = ap (λ (x : List ℕ). 1 ∷ x) r.whole; fine = r.fine; behind = r.behind })
+element_read f e (suc (suc b) ∷ rest) read h found = absurd cc
+
+-- so many that a reader reads one after the other
+record AllInFront {A : Type 0} (spell : A → List ℕ) (good : A → Bool) (n : ℕ) (bytes : List ℕ) (read : List A × List ℕ) : Type 0 where
+  count : length read.0 ≡ n
+  front : InFront (flat_map spell) (list_all good) bytes read
+
+many_read : {A : Type 0} (one : List ℕ → Option (A × List ℕ)) (spell : A → List ℕ) (good : A → Bool) → Reads one spell good
+    → (n : ℕ) (bytes : List ℕ) (read : List A × List ℕ) → AreBytes bytes → many_at one n bytes ≡ Some read → AllInFront spell good n bytes read
+unfolding many_at
+many_read {A = A} one spell good reads zero bytes read h e =
+    given (AllInFront spell good zero bytes) ([], bytes) read e (record { count = refl; front = record { whole = refl; fine = refl; behind = h } })
+many_read {A = A} one spell good reads (suc n) bytes read h e =
+    let first = bind_some _ _ read e in
+    let r = reads bytes first.0 h first.1 in
+    let others = bind_some _ _ read first.2 in
+    let s = many_read one spell good reads n first.0.1 others.0 r.behind others.1 in
+    let x = first.0.0 in
+    let xs = others.0.0 in
+    let rest = others.0.1 in
+    let whole : bytes ≡ flat_map spell (x ∷ xs) ++ rest = r.whole ∙ ap (λ (bs : List ℕ). spell x ++ bs) s.front.whole ∙ sym (append_assoc (spell x) (flat_map spell xs) rest) in
+    given (AllInFront spell good (suc n) bytes) (x ∷ xs, rest) read others.2
+        (record { count = omega (arith, s.count); front = record { whole = whole; fine = and_from _ _ r.fine s.front.fine; behind = s.front.behind } })
