@@ -26,7 +26,7 @@ use Rattle.vast_value.specs.declared.cell.Cell.{Cell}
 use Rattle.vast_value.specs.declared.cell.Cell.TheVariants as cell
 use Rattle.vast_value.specs.Fit.{is_byte, is_i64, is_short, is_bounded, is_bounded_element, is_small}
 use Rattle.vast_value.specs.Headings.{Field, Heading, heading_fault, fits_field, fits_fields}
-use Rattle.vast_value.specs.Kinds.{elem_of, elem_eq, is_element, is_lone_unset, has_kind}
+use Rattle.vast_value.specs.Kinds.{elem_of, elem_eq, is_element, are_elements, is_lone_unset, has_kind}
 use Rattle.vast_value.specs.Nets.{net_of, net_by}
 use Rattle.vast_value.specs.Ports.{transport_code, transport_coded}
 use Rattle.vast_value.specs.ValueBytes.{number, text, value_bytes}
@@ -338,3 +338,156 @@ many_read {A = A} one spell good reads (suc n) bytes read h e =
     let whole : bytes ≡ flat_map spell (x ∷ xs) ++ rest = r.whole ∙ ap (λ (bs : List ℕ). spell x ++ bs) s.front.whole ∙ sym (append_assoc (spell x) (flat_map spell xs) rest) in
     given (AllInFront spell good (suc n) bytes) (x ∷ xs, rest) read others.2
         (record { count = omega (arith, s.count); front = record { whole = whole; fine = and_from _ _ r.fine s.front.fine; behind = s.front.behind } })
+
+-- what passes two tests passes each
+all_parts : {A : Type 0} (p q : A → Bool) (xs : List A) → list_all (λ x. p x && q x) xs ≡ true → (list_all p xs ≡ true) × (list_all q xs ≡ true)
+all_parts p q [] h = (refl, refl)
+all_parts p q (x ∷ xs) h =
+    let a = and_parts (p x && q x) (list_all (λ y. p y && q y) xs) h in
+    let b = and_parts (p x) (q x) a.0 in
+    let c = all_parts p q xs a.1 in
+    (and_from _ _ b.0 c.0, and_from _ _ b.1 c.1)
+
+-- a cell of a kind that the format can spell
+abbrev fits_cell : Format → Kind → Cell → Bool
+fits_cell f k x = has_kind x k && (is_small x && cell_has_place f x)
+
+-- a container and the bytes behind it
+record Contains (f : Format) (e : Elem) (bytes : List ℕ) (read : Cell × List ℕ) : Type 0 where
+  items : List (Option Value)
+  many : read.0 ≡ cell.Many items
+  spelled : bytes ≡ (number 4 (length items) ++ flat_map (element_bytes f) items) ++ read.1
+  few : leb (length items) (2 ^ 24) ≡ true
+  more : is_lone_unset items ≡ false
+  fine : list_all (fits_element f e) items ≡ true
+  behind : AreBytes read.1
+
+container_parts : (f : Format) (e : Elem) (bytes : List ℕ) (read : Cell × List ℕ) → AreBytes bytes → container_at f e bytes ≡ Some read → Contains f e bytes read
+unfolding container_at
+container_parts f e bytes read h found =
+    let n = bind_some _ _ read found in
+    let r = number_read 4 bytes n.0 h n.1 in
+    let items = bind_some _ _ read n.2 in
+    let parts = past_test (ltb (2 ^ 24) n.0.0) (many_at (element_at f e) n.0.0 n.0.1) items.0 items.1 in
+    let few : n.0.0 ≤ 2 ^ 24 = ltb-false (2 ^ 24) n.0.0 parts.0 in
+    let s = many_read (element_at f e) (element_bytes f) (fits_element f e) (element_read f e) n.0.0 n.0.1 items.0 r.behind parts.1 in
+    let xs = items.0.0 in
+    let rest = items.0.1 in
+    let end = past_test (is_lone_unset xs) (Some (cell.Many xs, rest)) read items.2 in
+    let elements = flat_map (element_bytes f) xs in
+    let spelled : bytes ≡ (number 4 (length xs) ++ elements) ++ rest =
+    r.whole ∙ ap (λ (x : List ℕ). number 4 n.0.0 ++ x) s.front.whole ∙ ap (λ (x : ℕ). number 4 x ++ (elements ++ rest)) (sym s.count) ∙ sym (append_assoc (number 4 (length xs)) elements rest) in
+    let count = s.count in
+    given (Contains f e bytes) (cell.Many xs, rest) read end.1
+        (record { items = xs; many = refl; spelled = spelled; few = le-leb (length xs) (2 ^ 24) (omega arith); more = end.0; fine = s.front.fine; behind = s.front.behind })
+
+container_small : (f : Format) (e : Elem) (bytes : List ℕ) (read : Cell × List ℕ) (c : Contains f e bytes read) → (is_small (cell.Many c.items) && cell_has_place f (cell.Many c.items)) ≡ true
+container_small f e bytes read c =
+    let rest = λ (x : Option Value). is_bounded_element x && element_has_place f x in
+    let a = all_parts (is_element e) rest c.items c.fine in
+    let b = all_parts is_bounded_element (element_has_place f) c.items a.1 in
+    and_from _ _ (and_from _ _ c.few b.0) b.1
+
+container_kind : (f : Format) (e : Elem) (bytes : List ℕ) (read : Cell × List ℕ) (c : Contains f e bytes read) → are_elements e c.items ≡ true
+container_kind f e bytes read c =
+    let rest = λ (x : Option Value). is_bounded_element x && element_has_place f x in
+    let a = all_parts (is_element e) rest c.items c.fine in
+    and_from _ _ (not_from_false (is_lone_unset c.items) c.more) a.0
+
+-- behind the byte that says that a cell is set
+set_cell_read : (f : Format) (k : Kind) (bytes : List ℕ) (read : Cell × List ℕ) → AreBytes bytes → set_cell_at f k bytes ≡ Some read → InFront (cell_bytes f) (fits_cell f k) (1 ∷ bytes) read
+unfolding set_cell_at
+set_cell_read f (kind.One e) bytes read h found =
+    let v = bind_some _ _ read found in
+    let r = value_read f e bytes v.0 h v.1 in
+    given (InFront (cell_bytes f) (fits_cell f (kind.One e)) (1 ∷ bytes)) (cell.One v.0.0, v.0.1) read v.2 (record { whole = ap (λ (x : List ℕ). 1 ∷ x) r.whole; fine = r.fine; behind = r.behind })
+set_cell_read f (kind.SetOf e) bytes read h found =
+    let c = container_parts f e bytes read h found in
+    let whole : 1 ∷ bytes ≡ cell_bytes f read.0 ++ read.1 = ap (λ (x : List ℕ). 1 ∷ x) c.spelled ∙ ap (λ (x : Cell). cell_bytes f x ++ read.1) (sym c.many) in
+    let fine : fits_cell f (kind.SetOf e) read.0 ≡ true = ap (fits_cell f (kind.SetOf e)) c.many ∙ and_from _ _ (container_kind f e bytes read c) (container_small f e bytes read c) in
+    record { whole = whole; fine = fine; behind = c.behind }
+set_cell_read f (kind.VecOf e) bytes read h found =
+    let c = container_parts f e bytes read h found in
+    let whole : 1 ∷ bytes ≡ cell_bytes f read.0 ++ read.1 = ap (λ (x : List ℕ). 1 ∷ x) c.spelled ∙ ap (λ (x : Cell). cell_bytes f x ++ read.1) (sym c.many) in
+    let fine : fits_cell f (kind.VecOf e) read.0 ≡ true = ap (fits_cell f (kind.VecOf e)) c.many ∙ and_from _ _ (container_kind f e bytes read c) (container_small f e bytes read c) in
+    record { whole = whole; fine = fine; behind = c.behind }
+
+cell_read : (f : Format) (k : Kind) → Reads (cell_at f k) (cell_bytes f) (fits_cell f k)
+unfolding cell_at
+cell_read f k [] read h found = absurd cc
+cell_read f k (zero ∷ rest) read h found =
+    given (InFront (cell_bytes f) (fits_cell f k) (zero ∷ rest)) (cell.Unset, rest) read found (record { whole = refl; fine = refl; behind = (and_parts (is_byte zero) (list_all is_byte rest) h).1 })
+cell_read f k (suc zero ∷ rest) read h found = set_cell_read f k rest read (and_parts (is_byte 1) (list_all is_byte rest) h).1 found
+cell_read f k (suc (suc b) ∷ rest) read h found = absurd cc
+
+-- a row of these fields that the format can spell
+abbrev fits_row : Format → List Field → List Cell → Bool
+fits_row f fields cells = fits_fields fields cells && list_all (cell_has_place f) cells
+
+row_read : (f : Format) (fields : List Field) → Reads (row_at f fields) (row_bytes f) (fits_row f fields)
+unfolding row_at
+row_read f [] bytes read h e =
+    given (InFront (row_bytes f) (fits_row f []) bytes) ([], bytes) read e (record { whole = refl; fine = refl; behind = h })
+row_read f (field ∷ fields) bytes read h e =
+    let first = bind_some _ _ read e in
+    let r = cell_read f field.kind bytes first.0 h first.1 in
+    let others = bind_some _ _ read first.2 in
+    let s = row_read f fields first.0.1 others.0 r.behind others.1 in
+    let x = first.0.0 in
+    let xs = others.0.0 in
+    let rest = others.0.1 in
+    let whole : bytes ≡ row_bytes f (x ∷ xs) ++ rest = r.whole ∙ ap (λ (bs : List ℕ). cell_bytes f x ++ bs) s.whole ∙ sym (append_assoc (cell_bytes f x) (row_bytes f xs) rest) in
+    let a = and_parts (has_kind x field.kind) (is_small x && cell_has_place f x) r.fine in
+    let b = and_parts (is_small x) (cell_has_place f x) a.1 in
+    let c = and_parts (fits_fields fields xs) (list_all (cell_has_place f) xs) s.fine in
+    let fits : fits_fields (field ∷ fields) (x ∷ xs) ≡ true = and_from _ _ (and_from _ _ a.0 b.0) c.0 in
+    let places : list_all (cell_has_place f) (x ∷ xs) ≡ true = and_from _ _ b.1 c.1 in
+    given (InFront (row_bytes f) (fits_row f (field ∷ fields)) bytes) (x ∷ xs, rest) read others.2
+        (record { whole = whole; fine = and_from _ _ fits places; behind = s.behind })
+
+map_some : {A B : Type 0} (g : A → B) (o : Option A) (y : B) → option_map g o ≡ Some y → (a : A) × (o ≡ Some a) × (g a ≡ y)
+map_some g (Some a) y e = (a, refl, same_Some (g a) y e)
+map_some g None y e = absurd cc
+
+-- the codes of these kinds count up from n
+abbrev are_coded : ℕ → List Elem → Bool
+are_coded n [] = true
+are_coded n (e ∷ es) = eqb (elem_code e) n && are_coded (suc n) es
+
+coded_at : (n : ℕ) (es : List Elem) (k : ℕ) (e : Elem) → are_coded n es ≡ true → slice_get es k ≡ Some e → elem_code e ≡ n + k
+coded_at n [] k e h found = absurd cc
+coded_at n (x ∷ xs) zero e h found =
+    let first = eqb-true (elem_code x) n (and_parts (eqb (elem_code x) n) (are_coded (suc n) xs) h).0 in
+    given (λ (y : Elem). elem_code y ≡ n + 0) x e found (omega arith)
+coded_at n (x ∷ xs) (suc k) e h found =
+    let rest = coded_at (suc n) xs k e (and_parts (eqb (elem_code x) n) (are_coded (suc n) xs) h).1 found in
+    omega arith
+
+elem_coded : (n : ℕ) (e : Elem) → elem_of_code n ≡ Some e → elem_code e ≡ n
+unfolding elem_of_code
+elem_coded n e found = let at = coded_at 0 every_elem n e refl found in omega arith
+
+one_coded : (n : ℕ) (k : Kind) → option_map kind.One (elem_of_code n) ≡ Some k → kind_code k ≡ n
+one_coded n k found =
+    let e = map_some kind.One (elem_of_code n) k found in
+    subst (λ (x : Kind). kind_code x ≡ n) e.2 (elem_coded n e.0 e.1)
+
+set_coded : (n : ℕ) (k : Kind) → 16 ≤ n → option_map kind.SetOf (elem_of_code (n - 16)) ≡ Some k → kind_code k ≡ n
+set_coded n k le found =
+    let e = map_some kind.SetOf (elem_of_code (n - 16)) k found in
+    let code = elem_coded (n - 16) e.0 e.1 in
+    subst (λ (x : Kind). kind_code x ≡ n) e.2 (omega arith)
+
+vector_coded : (n : ℕ) (k : Kind) → 32 ≤ n → option_map kind.VecOf (elem_of_code (n - 32)) ≡ Some k → kind_code k ≡ n
+vector_coded n k le found =
+    let e = map_some kind.VecOf (elem_of_code (n - 32)) k found in
+    let code = elem_coded (n - 32) e.0 e.1 in
+    subst (λ (x : Kind). kind_code x ≡ n) e.2 (omega arith)
+
+kind_coded : (n : ℕ) (k : Kind) → kind_of_code n ≡ Some k → kind_code k ≡ n
+unfolding kind_of_code
+kind_coded n k =
+    cond_both (ltb n 16) (option_map kind.One (elem_of_code n)) (cond (ltb n 32) (option_map kind.SetOf (elem_of_code (n - 16))) (option_map kind.VecOf (elem_of_code (n - 32))))
+        (λ (o : Option Kind). o ≡ Some k → kind_code k ≡ n) (λ low found. one_coded n k found)
+        (λ high. cond_both (ltb n 32) (option_map kind.SetOf (elem_of_code (n - 16))) (option_map kind.VecOf (elem_of_code (n - 32)))
+            (λ (o : Option Kind). o ≡ Some k → kind_code k ≡ n) (λ low found. set_coded n k (ltb-false n 16 high) found) (λ higher found. vector_coded n k (ltb-false n 32 higher) found))
