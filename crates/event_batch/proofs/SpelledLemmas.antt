@@ -1,10 +1,10 @@
 -- What is read of bytes is what they spell.
-use Rattle.std.proofs.Common.{◌≡◌, ℕ, ℤ, pos, negsuc, zero, suc, ◌+◌, ◌-◌, ◌*◌, ◌%◌, ◌<◌, ◌≤◌, ◌^◌, Bool, true, false, cond, ◌&&◌, ◌||◌, ltb, leb, eqb, not, List, [], ◌∷◌, ◌++◌, length, take, drop, Option, None, Some, refl, ap, sym, subst, ◌∙◌, append_assoc, mod-lt, arith}
+use Rattle.std.proofs.Common.{◌≡◌, ℕ, ℤ, pos, negsuc, zero, suc, ◌+◌, ◌-◌, ◌%◌, ◌<◌, ◌≤◌, ◌^◌, Bool, true, false, cond, ◌&&◌, ◌||◌, ltb, leb, eqb, List, [], ◌∷◌, ◌++◌, length, take, drop, Option, None, Some, refl, ap, sym, subst, ◌∙◌, append_assoc, mod-lt, arith}
 use Rattle.std.specs.Int.{w64, cast_signed, cast_unsigned, byte_at as low_byte, bytes_low_first}
 use Rattle.std.specs.Int.RustNames.{FitsSigned}
 use Rattle.std.specs.List.{list_all, flat_map, slice_get}
 use Rattle.std.specs.Prelude.{is_none, is_some, option_map}
-use Rattle.std.proofs.lemmas.Bool.{leb-true, le-leb, le-ltb, lt-ltb, ltb-true, ltb-false, eqb-true, and_parts, and_from, or_parts, not_from_false, cond_both}
+use Rattle.std.proofs.lemmas.Bool.{le-leb, lt-ltb, ltb-true, ltb-false, eqb-true, and_parts, and_from, or_parts, not_from_false, cond_both}
 use Rattle.std.proofs.lemmas.Int.{of_z-to_z, ints}
 use Rattle.std.proofs.lemmas.List.{length-take-le, take-append-drop, append-nil}
 use Rattle.std.proofs.lemmas.List.Folds.{list_all-append}
@@ -25,7 +25,7 @@ use Rattle.vast_value.specs.declared.value.Value.TheVariants as value
 use Rattle.vast_value.specs.declared.cell.Cell.{Cell}
 use Rattle.vast_value.specs.declared.cell.Cell.TheVariants as cell
 use Rattle.vast_value.specs.Fit.{is_byte, is_i64, is_short, is_bounded, is_bounded_element, is_small}
-use Rattle.vast_value.specs.Headings.{Field, Heading, heading_fault, fits_field, fits_fields}
+use Rattle.vast_value.specs.Headings.{Field, Heading, heading_fault, fits_fields}
 use Rattle.vast_value.specs.Kinds.{elem_of, elem_eq, is_element, are_elements, is_lone_unset, has_kind}
 use Rattle.vast_value.specs.Nets.{net_of, net_by}
 use Rattle.vast_value.specs.Ports.{transport_code, transport_coded}
@@ -34,8 +34,8 @@ use Rattle.event_batch.specs.declared.format.Format.{Format}
 use Rattle.event_batch.specs.declared.format.Format.TheVariants.{First, Second}
 use Rattle.event_batch.specs.Contents.{Content, Spelled, has_place, element_has_place, cell_has_place, is_short_field, is_heading, is_spellable}
 use Rattle.event_batch.specs.Sizes.{is_batch_size}
-use Rattle.event_batch.specs.Spelling.{elem_code, kind_code, format_code, value_bytes_in, element_bytes, cell_bytes, row_bytes, field_bytes, heading_bytes, content_bytes, spelling, Spells}
-use Rattle.event_batch.specs.Reading.{◌>>=◌, byte_at, number_at, signed_at, text_at, bool_at, net_at, reads_as, port_at, value_at, element_at, many_at, container_at, set_cell_at, cell_at, row_at, every_elem, elem_of_code, kind_of_code, field_at, checked, heading_at, rows_at, format_coded, content_at}
+use Rattle.event_batch.specs.Spelling.{elem_code, kind_code, format_code, value_bytes_in, element_bytes, cell_bytes, row_bytes, field_bytes, heading_bytes, content_bytes, Spells}
+use Rattle.event_batch.specs.Reading.{◌>>=◌, byte_at, number_at, signed_at, text_at, bool_at, net_at, reads_as, port_at, value_at, element_at, many_at, container_at, set_cell_at, cell_at, row_at, every_elem, elem_of_code, kind_of_code, field_at, heading_at, rows_at, format_coded, content_at}
 
 abbrev AreBytes : List ℕ → Type 0
 AreBytes bytes = list_all is_byte bytes ≡ true
@@ -126,7 +126,7 @@ number_read n bytes read h e =
     let again : little_number n spelled ≡ x = ap (little_number n) (sym (append-nil spelled)) ∙ little_number-reads_back n x [] below in
     let whole = one_front n spelled bytes (length-bytes_low_first 0 n x) long (low_bytes_fit 0 n x) h again in
     given (InFront (number n) (is_below n) bytes) (x, drop n bytes) read parts.1
-        (record { whole = whole; fine = lt-ltb x (256 ^ n) below; behind = behind_of spelled (drop n bytes) bytes whole h })
+    (record { whole = whole; fine = lt-ltb x (256 ^ n) below; behind = behind_of spelled (drop n bytes) bytes whole h })
 
 is_i64_of : (z : ℤ) → FitsSigned w64 z → is_i64 z ≡ true
 is_i64_of (pos n) h = lt-ltb n (2 ^ 63) (omega (arith, ints))
@@ -141,7 +141,7 @@ signed_read bytes read h e =
     let same : cast_unsigned w64 (cast_signed w64 n.0.0) ≡ n.0.0 = of_z-to_z w64 n.0.0 low in
     let whole : bytes ≡ number 8 (cast_unsigned w64 (cast_signed w64 n.0.0)) ++ n.0.1 = r.whole ∙ ap (λ (x : ℕ). number 8 x ++ n.0.1) (sym same) in
     given (InFront (λ (z : ℤ). number 8 (cast_unsigned w64 z)) is_i64 bytes) (cast_signed w64 n.0.0, n.0.1) read n.2
-        (record { whole = whole; fine = is_i64_of (cast_signed w64 n.0.0) (sfits_to_z {w = w64} {n = n.0.0} (Fits-of_lt {w = w64} {n = n.0.0} low)); behind = r.behind })
+    (record { whole = whole; fine = is_i64_of (cast_signed w64 n.0.0) (sfits_to_z {w = w64} {n = n.0.0} (Fits-of_lt {w = w64} {n = n.0.0} low)); behind = r.behind })
 
 text_read : Reads text_at text is_short
 unfolding text_at
@@ -160,7 +160,7 @@ text_read bytes read h e =
     r.whole ∙ ap (λ (x : List ℕ). number 4 k ++ x) split ∙ ap (λ (x : ℕ). number 4 x ++ (take k rest ++ drop k rest)) (sym count) ∙ sym (append_assoc (number 4 (length (take k rest))) (take k rest) (drop k rest)) in
     let fine : is_short (take k rest) ≡ true = and_from _ _ (le-leb (length (take k rest)) (2 ^ 24) (omega arith)) (front_of (take k rest) (drop k rest) rest split r.behind) in
     given (InFront text is_short bytes) (take k rest, drop k rest) read parts.1
-        (record { whole = whole; fine = fine; behind = behind_of (take k rest) (drop k rest) rest split r.behind })
+    (record { whole = whole; fine = fine; behind = behind_of (take k rest) (drop k rest) rest split r.behind })
 
 abbrev always : {A : Type 0} → A → Bool
 always x = true
@@ -220,7 +220,7 @@ port_read First bytes read h e =
     let r = number_read 2 bytes n.0 h n.1 in
     let low : ltb n.0.0 (2 ^ 16) ≡ true = r.fine in
     given (InFront (value_bytes_in First) (fits_value First elem.Port) bytes) (value.Port n.0.0 Unknown, n.0.1) read n.2
-        (record { whole = r.whole; fine = and_from _ _ low refl; behind = r.behind })
+    (record { whole = r.whole; fine = and_from _ _ low refl; behind = r.behind })
 port_read Second bytes read h e =
     let n = bind_some _ _ read e in
     let r = number_read 2 bytes n.0 h n.1 in
@@ -232,7 +232,7 @@ port_read Second bytes read h e =
     let spelled : bytes ≡ number 2 n.0.0 ++ code.0.0 ∷ code.0.1 = r.whole ∙ ap (λ (x : List ℕ). number 2 n.0.0 ++ x) s.whole in
     let whole : bytes ≡ (number 2 n.0.0 ++ transport_code over.0 ∷ []) ++ code.0.1 = spelled ∙ rw same (sym (append_assoc (number 2 n.0.0) (code.0.0 ∷ []) code.0.1)) in
     given (InFront (value_bytes_in Second) (fits_value Second elem.Port) bytes) (value.Port n.0.0 over.0, code.0.1) read over.2
-        (record { whole = whole; fine = and_from _ _ low refl; behind = s.behind })
+    (record { whole = whole; fine = and_from _ _ low refl; behind = s.behind })
 
 -- a value whose bytes are the same in each format
 abbrev IsPlain : Value → Type 0
@@ -251,7 +251,7 @@ made_of {A = A} f e make one spell good reads plain same kept bytes read h found
     let whole : bytes ≡ value_bytes_in f v ++ x.0.1 = r.whole ∙ ap (λ (bs : List ℕ). bs ++ x.0.1) (sym (p.0 ∙ same x.0.0)) in
     let k = and_parts (elem_eq (elem_of v) e) (is_bounded v) (kept x.0.0 r.fine) in
     given (InFront (value_bytes_in f) (fits_value f e) bytes) (v, x.0.1) read x.2
-        (record { whole = whole; fine = and_from _ _ k.0 (and_from _ _ k.1 p.1); behind = r.behind })
+    (record { whole = whole; fine = and_from _ _ k.0 (and_from _ _ k.1 p.1); behind = r.behind })
 
 plain_bool : (b : Bool) → IsPlain (value.Bool b)
 plain_bool b First = (refl, refl)
@@ -337,7 +337,7 @@ many_read {A = A} one spell good reads (suc n) bytes read h e =
     let rest = others.0.1 in
     let whole : bytes ≡ flat_map spell (x ∷ xs) ++ rest = r.whole ∙ ap (λ (bs : List ℕ). spell x ++ bs) s.front.whole ∙ sym (append_assoc (spell x) (flat_map spell xs) rest) in
     given (AllInFront spell good (suc n) bytes) (x ∷ xs, rest) read others.2
-        (record { count = omega (arith, s.count); front = record { whole = whole; fine = and_from _ _ r.fine s.front.fine; behind = s.front.behind } })
+    (record { count = omega (arith, s.count); front = record { whole = whole; fine = and_from _ _ r.fine s.front.fine; behind = s.front.behind } })
 
 -- what passes two tests passes each
 all_parts : {A : Type 0} (p q : A → Bool) (xs : List A) → list_all (λ x. p x && q x) xs ≡ true → (list_all p xs ≡ true) × (list_all q xs ≡ true)
@@ -379,7 +379,7 @@ container_parts f e bytes read h found =
     r.whole ∙ ap (λ (x : List ℕ). number 4 n.0.0 ++ x) s.front.whole ∙ ap (λ (x : ℕ). number 4 x ++ (elements ++ rest)) (sym s.count) ∙ sym (append_assoc (number 4 (length xs)) elements rest) in
     let count = s.count in
     given (Contains f e bytes) (cell.Many xs, rest) read end.1
-        (record { items = xs; many = refl; spelled = spelled; few = le-leb (length xs) (2 ^ 24) (omega arith); more = end.0; fine = s.front.fine; behind = s.front.behind })
+    (record { items = xs; many = refl; spelled = spelled; few = le-leb (length xs) (2 ^ 24) (omega arith); more = end.0; fine = s.front.fine; behind = s.front.behind })
 
 container_small : (f : Format) (e : Elem) (bytes : List ℕ) (read : Cell × List ℕ) (c : Contains f e bytes read) → (is_small (cell.Many c.items) && cell_has_place f (cell.Many c.items)) ≡ true
 container_small f e bytes read c =
@@ -443,7 +443,7 @@ row_read f (field ∷ fields) bytes read h e =
     let fits : fits_fields (field ∷ fields) (x ∷ xs) ≡ true = and_from _ _ (and_from _ _ a.0 b.0) c.0 in
     let places : list_all (cell_has_place f) (x ∷ xs) ≡ true = and_from _ _ b.1 c.1 in
     given (InFront (row_bytes f) (fits_row f (field ∷ fields)) bytes) (x ∷ xs, rest) read others.2
-        (record { whole = whole; fine = and_from _ _ fits places; behind = s.behind })
+    (record { whole = whole; fine = and_from _ _ fits places; behind = s.behind })
 
 map_some : {A B : Type 0} (g : A → B) (o : Option A) (y : B) → option_map g o ≡ Some y → (a : A) × (o ≡ Some a) × (g a ≡ y)
 map_some g (Some a) y e = (a, refl, same_Some (g a) y e)
@@ -488,6 +488,110 @@ kind_coded : (n : ℕ) (k : Kind) → kind_of_code n ≡ Some k → kind_code k 
 unfolding kind_of_code
 kind_coded n k =
     cond_both (ltb n 16) (option_map kind.One (elem_of_code n)) (cond (ltb n 32) (option_map kind.SetOf (elem_of_code (n - 16))) (option_map kind.VecOf (elem_of_code (n - 32))))
-        (λ (o : Option Kind). o ≡ Some k → kind_code k ≡ n) (λ low found. one_coded n k found)
-        (λ high. cond_both (ltb n 32) (option_map kind.SetOf (elem_of_code (n - 16))) (option_map kind.VecOf (elem_of_code (n - 32)))
-            (λ (o : Option Kind). o ≡ Some k → kind_code k ≡ n) (λ low found. set_coded n k (ltb-false n 16 high) found) (λ higher found. vector_coded n k (ltb-false n 32 higher) found))
+    (λ (o : Option Kind). o ≡ Some k → kind_code k ≡ n) (λ low found. one_coded n k found)
+    (λ high. cond_both (ltb n 32) (option_map kind.SetOf (elem_of_code (n - 16))) (option_map kind.VecOf (elem_of_code (n - 32)))
+    (λ (o : Option Kind). o ≡ Some k → kind_code k ≡ n) (λ low found. set_coded n k (ltb-false n 16 high) found) (λ higher found. vector_coded n k (ltb-false n 32 higher) found))
+
+field_read : Reads field_at field_bytes is_short_field
+unfolding field_at
+field_read bytes read h e =
+    let code = bind_some _ _ read e in
+    let r = byte_read bytes code.0 h code.1 in
+    let k = bind_some _ _ read code.2 in
+    let same = kind_coded code.0.0 k.0 k.1 in
+    let name = bind_some _ _ read k.2 in
+    let s = text_read code.0.1 name.0 r.behind name.1 in
+    let t = name.0.0 in
+    let rest = name.0.1 in
+    let spelled : bytes ≡ code.0.0 ∷ (text t ++ rest) = r.whole ∙ ap (λ (bs : List ℕ). code.0.0 ∷ bs) s.whole in
+    let whole : bytes ≡ (kind_code k.0 ∷ text t) ++ rest = spelled ∙ ap (λ (x : ℕ). x ∷ (text t ++ rest)) (sym same) in
+    let short = and_parts (leb (length t) (2 ^ 24)) (list_all is_byte t) s.fine in
+    given (InFront field_bytes is_short_field bytes) (record { name = t; kind = k.0 }, rest) read name.2 (record { whole = whole; fine = short.0; behind = s.behind })
+
+none_from : {A : Type 0} (o : Option A) → is_some o ≡ false → is_none o ≡ true
+none_from None h = refl
+none_from (Some x) h = absurd cc
+
+heading_read : Reads heading_at heading_bytes is_heading
+unfolding heading_at
+heading_read bytes read h e =
+    let path = bind_some _ _ read e in
+    let r = text_read bytes path.0 h path.1 in
+    let n = bind_some _ _ read path.2 in
+    let s = number_read 2 path.0.1 n.0 r.behind n.1 in
+    let fields = bind_some _ _ read n.2 in
+    let many = many_read field_at field_bytes is_short_field field_read n.0.0 n.0.1 fields.0 s.behind fields.1 in
+    let t = path.0.0 in
+    let fs = fields.0.0 in
+    let rest = fields.0.1 in
+    let heading : Heading = record { path = t; fields = fs } in
+    let end = past_test (is_some (heading_fault heading)) (Some (heading, rest)) read fields.2 in
+    let columns = flat_map field_bytes fs in
+    let counted : path.0.1 ≡ number 2 (length fs) ++ (columns ++ rest) = s.whole ∙ ap (λ (x : List ℕ). number 2 n.0.0 ++ x) many.front.whole ∙ ap (λ (x : ℕ). number 2 x ++ (columns ++ rest)) (sym many.count) in
+    let grouped : number 2 (length fs) ++ (columns ++ rest) ≡ (number 2 (length fs) ++ columns) ++ rest = sym (append_assoc (number 2 (length fs)) columns rest) in
+    let whole : bytes ≡ heading_bytes heading ++ rest =
+    r.whole ∙ ap (λ (x : List ℕ). text t ++ x) (counted ∙ grouped) ∙ sym (append_assoc (text t) (number 2 (length fs) ++ columns) rest) in
+    let short = and_parts (leb (length t) (2 ^ 24)) (list_all is_byte t) r.fine in
+    let fine : is_heading heading ≡ true = and_from _ _ (none_from (heading_fault heading) end.0) (and_from _ _ short.0 many.front.fine) in
+    given (InFront heading_bytes is_heading bytes) (heading, rest) read end.1 (record { whole = whole; fine = fine; behind = many.front.behind })
+
+-- all the bytes are those of rows that fit
+record AreRows (f : Format) (fields : List Field) (bytes : List ℕ) (rows : List (List Cell)) : Type 0 where
+  whole : bytes ≡ number 4 (length rows) ++ flat_map (row_bytes f) rows
+  sized : is_batch_size (length rows) ≡ true
+  fitting : list_all (fits_fields fields) rows ≡ true
+  places : list_all (list_all (cell_has_place f)) rows ≡ true
+
+empty_from : (xs : List ℕ) → eqb (length xs) 0 ≡ true → xs ≡ []
+empty_from [] h = refl
+empty_from (x ∷ xs) h = let e = eqb-true (length (x ∷ xs)) 0 h in absurd (omega arith)
+
+if_so : {A : Type 0} (b : Bool) (o : Option A) (y : A) → cond b o None ≡ Some y → (b ≡ true) × (o ≡ Some y)
+if_so true o y e = (refl, e)
+if_so false o y e = absurd cc
+
+rows_read : (f : Format) (fields : List Field) (bytes : List ℕ) (rows : List (List Cell)) → AreBytes bytes → rows_at f fields bytes ≡ Some rows → AreRows f fields bytes rows
+unfolding rows_at
+rows_read f fields bytes rows h e =
+    let n = bind_some _ _ rows e in
+    let r = number_read 4 bytes n.0 h n.1 in
+    let some = bind_some _ _ rows n.2 in
+    let sized = if_so (is_batch_size n.0.0) (many_at (row_at f fields) n.0.0 n.0.1) some.0 some.1 in
+    let many = many_read (row_at f fields) (row_bytes f) (fits_row f fields) (row_read f fields) n.0.0 n.0.1 some.0 r.behind sized.1 in
+    let xs = some.0.0 in
+    let spelled = flat_map (row_bytes f) xs in
+    let end = cond_some (eqb (length some.0.1) 0) xs rows some.2 in
+    let nothing = empty_from some.0.1 end.0 in
+    let whole : bytes ≡ number 4 (length xs) ++ spelled =
+    r.whole ∙ ap (λ (x : List ℕ). number 4 n.0.0 ++ x) (many.front.whole ∙ ap (λ (x : List ℕ). spelled ++ x) nothing ∙ append-nil spelled) ∙ ap (λ (x : ℕ). number 4 x ++ spelled) (sym many.count) in
+    let parts = all_parts (fits_fields fields) (list_all (cell_has_place f)) xs many.front.fine in
+    let size : is_batch_size (length xs) ≡ true = ap is_batch_size many.count ∙ sized.0 in
+    subst (AreRows f fields bytes) end.1 (record { whole = whole; sized = size; fitting = parts.0; places = parts.1 })
+
+format_parts : (b : ℕ) (f : Format) → format_coded b ≡ Some f → format_code f ≡ b
+unfolding format_coded
+format_parts b f =
+    cond_both (eqb b 1) (Some First) (cond (eqb b 2) (Some Second) None) (λ (o : Option Format). o ≡ Some f → format_code f ≡ b)
+    (λ one found. given (λ (x : Format). format_code x ≡ b) First f found (sym (eqb-true b 1 one)))
+    (λ other found. let two = cond_some (eqb b 2) Second f found in subst (λ (x : Format). format_code x ≡ b) two.1 (sym (eqb-true b 2 two.0)))
+
+-- what is read of bytes is what they spell
+pub read_is_spelled : (bytes : List ℕ) (s : Spelled) → list_all is_byte bytes ≡ true → content_at bytes ≡ Some s → Spells bytes s
+unfolding content_at
+read_is_spelled bytes s h e =
+    let code = bind_some _ _ s e in
+    let r = byte_read bytes code.0 h code.1 in
+    let format = bind_some _ _ s code.2 in
+    let f = format.0 in
+    let same = format_parts code.0.0 f format.1 in
+    let source = bind_some _ _ s format.2 in
+    let t = number_read 4 code.0.1 source.0 r.behind source.1 in
+    let heading = bind_some _ _ s source.2 in
+    let u = heading_read source.0.1 heading.0 t.behind heading.1 in
+    let rows = bind_some _ _ s heading.2 in
+    let v = rows_read f heading.0.0.fields heading.0.1 rows.0 u.behind rows.1 in
+    let content : Content = record { source = source.0.0; heading = heading.0.0; rows = rows.0 } in
+    let inner : code.0.1 ≡ content_bytes f content = t.whole ∙ ap (λ (x : List ℕ). number 4 source.0.0 ++ x) (u.whole ∙ ap (λ (x : List ℕ). heading_bytes heading.0.0 ++ x) v.whole) in
+    let whole : bytes ≡ format_code f ∷ content_bytes f content = r.whole ∙ ap (λ (x : List ℕ). code.0.0 ∷ x) inner ∙ ap (λ (x : ℕ). x ∷ content_bytes f content) (sym same) in
+    let fine : is_spellable (record { format = f; content = content }) ≡ true = and_from _ _ (and_from _ _ t.fine (and_from _ _ u.fine (and_from _ _ v.sized v.fitting))) v.places in
+    given (Spells bytes) (record { format = f; content = content }) s rows.2 (record { spelled = whole; spellable = fine })
