@@ -1,12 +1,14 @@
 -- What a batch keeps, as facts on its content.
-use Rattle.std.proofs.Common.{◌≡◌, ℕ, ◌+◌, ◌-◌, ◌≤◌, ◌^◌, Bool, true, false, cond, ◌&&◌, ltb, List, [], ◌∷◌, ◌++◌, length, map, Option, None, Some, refl, ◌∙◌, arith}
+use Rattle.std.proofs.Common.{◌≡◌, ℕ, ◌+◌, ◌-◌, ◌≤◌, ◌<◌, ◌^◌, Bool, true, false, cond, ◌&&◌, ltb, List, [], ◌∷◌, ◌++◌, length, map, Option, None, Some, refl, ◌∙◌, arith}
 use Rattle.std.specs.Prelude.{is_none}
 use Rattle.std.specs.List.{list_all, list_any}
 use Rattle.std.specs.Option.{option_or}
 use Rattle.std.specs.Str.{bytes_eq}
-use Rattle.std.proofs.lemmas.Bool.{le-leb, lt-ltb, ltb-false}
+use Rattle.std.proofs.lemmas.Bool.{le-leb, lt-ltb, ltb-false, ltb-true}
 use Rattle.std.proofs.lemmas.List.{length-map}
+use Rattle.vast_value.specs.declared.value.Value.{Value}
 use Rattle.vast_value.specs.declared.cell.Cell.{Cell}
+use Rattle.vast_value.specs.declared.cell.Cell.TheVariants.{Unset, One, Many}
 use Rattle.vast_value.specs.declared.column.Column.{Column}
 use Rattle.vast_value.specs.declared.layout.Layout.{Layout}
 use Rattle.vast_value.specs.declared.layout.BadLayout.TheVariants.{EmptyPath, NoColumns, TooManyColumns, EmptyName, SameName}
@@ -15,7 +17,8 @@ use Rattle.vast_value.specs.Layouts.{is_empty, layout_fault}
 use Rattle.vast_value.specs.Headings.{Field, Heading, field_of, heading_of, field_fault, fields_fault, heading_fault, fits_fields}
 use Rattle.vast_value.proofs.HeadingLemmas.{fits_fields-map, heading_fault-map}
 use Rattle.event_batch.specs.declared.batch.Batch.{Batch}
-use Rattle.event_batch.specs.Contents.{content_of, is_heading, is_short_field, is_content}
+use Rattle.event_batch.specs.declared.format.Format.TheVariants.{Second}
+use Rattle.event_batch.specs.Contents.{Spelled, content_of, is_heading, is_short_field, is_content, element_has_place, cell_has_place, is_spellable}
 use Rattle.event_batch.specs.Sizes.{is_batch_size}
 
 pub both : (a b : Bool) → (a && b) ≡ true → (a ≡ true) × (b ≡ true)
@@ -97,3 +100,47 @@ is_content_of b =
     let fitting : list_all (fits_fields (map field_of b.layout.columns)) b.rows ≡ true = rows_fit_fields b.layout.columns b.rows ∙ b.fitting in
     let sized : is_batch_size (length b.rows) ≡ true = b.sized in
     rw (source, heading, sized, fitting) refl
+
+-- the facts that a spellable content has
+pub record Parts (s : Spelled) : Type 0 where
+  pub narrow : s.content.source < 2 ^ 32
+  pub heading : is_heading s.content.heading ≡ true
+  pub sized : is_batch_size (length s.content.rows) ≡ true
+  pub fitting : list_all (fits_fields s.content.heading.fields) s.content.rows ≡ true
+  pub places : list_all (list_all (cell_has_place s.format)) s.content.rows ≡ true
+
+pub parts_of : (s : Spelled) → is_spellable s ≡ true → Parts s
+parts_of s h =
+    let c = s.content in
+    let fit = is_batch_size (length c.rows) && list_all (fits_fields c.heading.fields) c.rows in
+    let whole = both (is_content c) (list_all (list_all (cell_has_place s.format)) c.rows) h in
+    let a = both (ltb c.source (2 ^ 32)) (is_heading c.heading && fit) whole.0 in
+    let b = both (is_heading c.heading) fit a.1 in
+    let d = both (is_batch_size (length c.rows)) (list_all (fits_fields c.heading.fields) c.rows) b.1 in
+    record { narrow = ltb-true c.source (2 ^ 32) a.0; heading = b.0; sized = d.0; fitting = d.1; places = whole.1 }
+
+-- format 2 has a place for every port
+element_placed : (x : Option Value) → element_has_place Second x ≡ true
+element_placed None = refl
+element_placed (Some v) = refl
+
+elements_placed : (items : List (Option Value)) → list_all (element_has_place Second) items ≡ true
+elements_placed [] = refl
+elements_placed (x ∷ xs) = rw (element_placed x, elements_placed xs) refl
+
+cell_placed : (x : Cell) → cell_has_place Second x ≡ true
+cell_placed Unset = refl
+cell_placed (One v) = refl
+cell_placed (Many items) = elements_placed items
+
+cells_placed : (xs : List Cell) → list_all (cell_has_place Second) xs ≡ true
+cells_placed [] = refl
+cells_placed (x ∷ xs) = rw (cell_placed x, cells_placed xs) refl
+
+rows_placed : (rows : List (List Cell)) → list_all (list_all (cell_has_place Second)) rows ≡ true
+rows_placed [] = refl
+rows_placed (xs ∷ rows) = rw (cells_placed xs, rows_placed rows) refl
+
+-- format 2 spells every batch
+pub is_spellable_of : (b : Batch) → is_spellable (record { format = Second; content = content_of b }) ≡ true
+is_spellable_of b = rw (is_content_of b, rows_placed b.rows) refl

@@ -1,8 +1,8 @@
 -- Numbers, texts and values that were spelled are read again.
-use Rattle.std.proofs.Common.{◌≡◌, ℕ, ℤ, pos, negsuc, suc, ◌-◌, ◌%◌, ◌<◌, ◌≤◌, ◌^◌, Bool, true, false, ◌&&◌, ltb, leb, eqb, List, [], ◌∷◌, ◌++◌, length, Option, None, Some, refl, ap, sym, ◌∙◌, append_assoc, arith}
+use Rattle.std.proofs.Common.{◌≡◌, ℕ, ℤ, pos, negsuc, suc, ◌<◌, ◌≤◌, ◌^◌, Bool, true, false, ◌&&◌, ltb, leb, List, [], ◌∷◌, ◌++◌, length, Option, None, Some, refl, ap, sym, ◌∙◌, append_assoc, arith}
 use Rattle.std.specs.Int.{w64, cast_signed, cast_unsigned}
 use Rattle.std.specs.List.{list_all, flat_map}
-use Rattle.std.proofs.lemmas.Bool.{leb-true, le-leb, le-ltb, ltb-true, eq-eqb}
+use Rattle.std.proofs.lemmas.Bool.{leb-true, le-ltb, ltb-true}
 use Rattle.std.proofs.lemmas.List.{length-append, take_at, drop_at}
 use Rattle.std.proofs.lemmas.Int.{to_z-of_z, ints}
 use Rattle.std.proofs.Math.Facts.{Fits-of_z, Fits-lt-pow}
@@ -10,19 +10,25 @@ use Rattle.std.specs.Int.RustNames.{FitsSigned}
 use Rattle.byteorder.specs.Endian.{little_number}
 use Rattle.byteorder.specs.Numbers.{little_number-reads_back, length-bytes_low_first}
 use Rattle.vast_value.specs.declared.kind.Elem.{Elem}
-use Rattle.vast_value.specs.declared.kind.Elem.TheVariants as elem
 use Rattle.vast_value.specs.declared.net.Net.{Net}
 use Rattle.vast_value.specs.declared.value.Value.{Value}
 use Rattle.vast_value.specs.declared.value.Value.TheVariants as value
 use Rattle.vast_value.specs.Fit.{is_i64, is_bounded, is_bounded_element, is_short, is_byte}
+use Rattle.vast_value.specs.declared.transport.Transport.{Transport}
+use Rattle.vast_value.specs.declared.transport.Transport.TheVariants.{Unknown, Tcp, Udp, Icmp}
 use Rattle.vast_value.specs.Kinds.{elem_of, elem_eq, is_element}
-use Rattle.vast_value.proofs.NetLemmas.{net_equal}
-use Rattle.event_batch.specs.Spelling.{number, text, value_bytes, element_bytes}
-use Rattle.vast_value.specs.Nets.{net_of, net_by}
-use Rattle.event_batch.specs.Reading.{byte_at, number_at, signed_at, text_at, bool_at, net_at, value_at, element_at, many_at}
+use Rattle.vast_value.specs.Ports.{transport_code, transport_coded, transport_eq}
+use Rattle.vast_value.specs.ValueBytes.{number, text, value_bytes}
+use Rattle.vast_value.proofs.KindLemmas.{elem_is}
+use Rattle.vast_value.proofs.NetLemmas.{net_of_itself}
+use Rattle.event_batch.specs.declared.format.Format.{Format}
+use Rattle.event_batch.specs.declared.format.Format.TheVariants.{First, Second}
+use Rattle.event_batch.specs.Contents.{has_place, element_has_place}
+use Rattle.event_batch.specs.Spelling.{value_bytes_in, element_bytes}
+use Rattle.event_batch.specs.Reading.{byte_at, number_at, signed_at, text_at, bool_at, net_at, port_at, value_at, element_at, many_at}
 use Rattle.event_batch.proofs.ContentLemmas.{both}
 
-length_number : (n x : ℕ) → length (number n x) ≡ n
+pub length_number : (n x : ℕ) → length (number n x) ≡ n
 unfolding number
 length_number n x = length-bytes_low_first 0 n x
 
@@ -66,63 +72,69 @@ unfolding bool_at
 bool_again true rest = refl
 bool_again false rest = refl
 
-net_is : (n : Net) (a b : Bool) (p : leb n.bits 128 ≡ a) (q : eqb (n.base % 2 ^ (128 - n.bits)) 0 ≡ b) → a ≡ true → b ≡ true → net_by n.base n.bits a b p q ≡ Some n
-net_is n true true p q ha hb = ap (λ (m : Net). Some m) (net_equal _ _ refl refl)
-net_is n true false p q ha hb = absurd cc
-net_is n false b p q ha hb = absurd cc
-
-pub net_of_itself : (n : Net) → net_of n.base n.bits ≡ Some n
-unfolding net_of
-net_of_itself n = net_is n _ _ refl refl (le-leb n.bits 128 n.narrow) (eq-eqb _ 0 n.masked)
-
 pub net_again : (n : Net) (rest : List ℕ) → n.base < 2 ^ 128 → net_at ((number 16 n.base ++ n.bits ∷ []) ++ rest) ≡ Some (n, rest)
 unfolding net_at byte_at
 net_again n rest lt =
     let base = number_again 16 n.base (n.bits ∷ rest) (omega arith) in
     rw (append_assoc, base, net_of_itself n) refl
 
-elem_is : (a b : Elem) → elem_eq a b ≡ true → a ≡ b
-elem_is elem.Bool elem.Bool h = refl
-elem_is elem.Count elem.Count h = refl
-elem_is elem.Int elem.Int h = refl
-elem_is elem.Time elem.Time h = refl
-elem_is elem.Span elem.Span h = refl
-elem_is elem.Text elem.Text h = refl
-elem_is elem.Name elem.Name h = refl
-elem_is elem.Addr elem.Addr h = refl
-elem_is elem.Subnet elem.Subnet h = refl
-elem_is elem.Port elem.Port h = refl
-elem_is _ _ h = absurd cc
-
 short_is : (t : List ℕ) → is_short t ≡ true → length t ≤ 2 ^ 24
 short_is t h = leb-true (length t) (2 ^ 24) (both (leb (length t) (2 ^ 24)) (list_all is_byte t) h).0
 
-own_value_again : (v : Value) (rest : List ℕ) → is_bounded v ≡ true → value_at (elem_of v) (value_bytes v ++ rest) ≡ Some (v, rest)
-unfolding value_at
-own_value_again (value.Bool b) rest h = rw (bool_again b rest) refl
-own_value_again (value.Count n) rest h = let lt = ltb-true n (2 ^ 64) h in rw (number_again 8 n rest (omega arith)) refl
-own_value_again (value.Int z) rest h = rw (signed_again z rest h) refl
-own_value_again (value.Time z) rest h = rw (signed_again z rest h) refl
-own_value_again (value.Span z) rest h = rw (signed_again z rest h) refl
-own_value_again (value.Text t) rest h = rw (text_again t rest (short_is t h)) refl
-own_value_again (value.Name t) rest h = rw (text_again t rest (short_is t h)) refl
-own_value_again (value.Addr a) rest h = let lt = ltb-true a (2 ^ 128) h in rw (number_again 16 a rest (omega arith)) refl
-own_value_again (value.Subnet n) rest h = rw (net_again n rest (ltb-true n.base (2 ^ 128) h)) refl
-own_value_again (value.Port p) rest h = let lt = ltb-true p (2 ^ 16) h in rw (number_again 2 p rest (omega arith)) refl
+coded_again : (over : Transport) → transport_coded (transport_code over) ≡ Some over
+coded_again Unknown = refl
+coded_again Tcp = refl
+coded_again Udp = refl
+coded_again Icmp = refl
 
-pub value_again : (e : Elem) (v : Value) (rest : List ℕ) → elem_eq (elem_of v) e ≡ true → is_bounded v ≡ true → value_at e (value_bytes v ++ rest) ≡ Some (v, rest)
-value_again e v rest k h = ap (λ (x : Elem). value_at x (value_bytes v ++ rest)) (sym (elem_is (elem_of v) e k)) ∙ own_value_again v rest h
+first_port_again : (p : ℕ) (over : Transport) (rest : List ℕ) → p < 2 ^ 16 → transport_eq over Unknown ≡ true → port_at First (number 2 p ++ rest) ≡ Some (value.Port p over, rest)
+unfolding port_at
+first_port_again p Unknown rest lt h = rw (number_again 2 p rest (omega arith)) refl
+first_port_again p Tcp rest lt h = absurd cc
+first_port_again p Udp rest lt h = absurd cc
+first_port_again p Icmp rest lt h = absurd cc
+
+second_port_again : (p : ℕ) (over : Transport) (rest : List ℕ) → p < 2 ^ 16 → port_at Second ((number 2 p ++ transport_code over ∷ []) ++ rest) ≡ Some (value.Port p over, rest)
+unfolding port_at byte_at
+second_port_again p over rest lt = rw (append_assoc, number_again 2 p (transport_code over ∷ rest) (omega arith), coded_again over) refl
+
+own_value_again : (f : Format) (v : Value) (rest : List ℕ) → is_bounded v ≡ true → has_place f v ≡ true → value_at f (elem_of v) (value_bytes_in f v ++ rest) ≡ Some (v, rest)
+unfolding value_at
+own_value_again First (value.Bool b) rest h k = rw (bool_again b rest) refl
+own_value_again First (value.Count n) rest h k = let lt = ltb-true n (2 ^ 64) h in rw (number_again 8 n rest (omega arith)) refl
+own_value_again First (value.Int z) rest h k = rw (signed_again z rest h) refl
+own_value_again First (value.Time z) rest h k = rw (signed_again z rest h) refl
+own_value_again First (value.Span z) rest h k = rw (signed_again z rest h) refl
+own_value_again First (value.Text t) rest h k = rw (text_again t rest (short_is t h)) refl
+own_value_again First (value.Name t) rest h k = rw (text_again t rest (short_is t h)) refl
+own_value_again First (value.Addr a) rest h k = let lt = ltb-true a (2 ^ 128) h in rw (number_again 16 a rest (omega arith)) refl
+own_value_again First (value.Subnet n) rest h k = rw (net_again n rest (ltb-true n.base (2 ^ 128) h)) refl
+own_value_again First (value.Port p over) rest h k = first_port_again p over rest (ltb-true p (2 ^ 16) h) k
+own_value_again Second (value.Bool b) rest h k = rw (bool_again b rest) refl
+own_value_again Second (value.Count n) rest h k = let lt = ltb-true n (2 ^ 64) h in rw (number_again 8 n rest (omega arith)) refl
+own_value_again Second (value.Int z) rest h k = rw (signed_again z rest h) refl
+own_value_again Second (value.Time z) rest h k = rw (signed_again z rest h) refl
+own_value_again Second (value.Span z) rest h k = rw (signed_again z rest h) refl
+own_value_again Second (value.Text t) rest h k = rw (text_again t rest (short_is t h)) refl
+own_value_again Second (value.Name t) rest h k = rw (text_again t rest (short_is t h)) refl
+own_value_again Second (value.Addr a) rest h k = let lt = ltb-true a (2 ^ 128) h in rw (number_again 16 a rest (omega arith)) refl
+own_value_again Second (value.Subnet n) rest h k = rw (net_again n rest (ltb-true n.base (2 ^ 128) h)) refl
+own_value_again Second (value.Port p over) rest h k = second_port_again p over rest (ltb-true p (2 ^ 16) h)
+
+pub value_again : (f : Format) (e : Elem) (v : Value) (rest : List ℕ) → elem_eq (elem_of v) e ≡ true → is_bounded v ≡ true → has_place f v ≡ true → value_at f e (value_bytes_in f v ++ rest) ≡ Some (v, rest)
+value_again f e v rest k h p = ap (λ (x : Elem). value_at f x (value_bytes_in f v ++ rest)) (sym (elem_is (elem_of v) e k)) ∙ own_value_again f v rest h p
 
 -- an element that a container of this kind may have
-abbrev pub fits_element : Elem → Option Value → Bool
-fits_element e x = is_element e x && is_bounded_element x
+abbrev pub fits_element : Format → Elem → Option Value → Bool
+fits_element f e x = is_element e x && (is_bounded_element x && element_has_place f x)
 
-pub element_again : (e : Elem) (x : Option Value) (rest : List ℕ) → fits_element e x ≡ true → element_at e (element_bytes x ++ rest) ≡ Some (x, rest)
+pub element_again : (f : Format) (e : Elem) (x : Option Value) (rest : List ℕ) → fits_element f e x ≡ true → element_at f e (element_bytes f x ++ rest) ≡ Some (x, rest)
 unfolding element_at
-element_again e None rest h = refl
-element_again e (Some v) rest h =
-    let parts = both (elem_eq (elem_of v) e) (is_bounded v) h in
-    rw (value_again e v rest parts.0 parts.1) refl
+element_again f e None rest h = refl
+element_again f e (Some v) rest h =
+    let parts = both (elem_eq (elem_of v) e) (is_bounded v && has_place f v) h in
+    let places = both (is_bounded v) (has_place f v) parts.1 in
+    rw (value_again f e v rest parts.0 places.0 places.1) refl
 
 -- a list that is spelled item by item is read item by item
 pub many_again : {A : Type 0} (one : List ℕ → Option (A × List ℕ)) (spell : A → List ℕ) (good : A → Bool)

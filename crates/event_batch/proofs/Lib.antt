@@ -5,3 +5,6 @@ pub mod LoopLemmas
 pub mod PackingLemmas
 pub mod PlaceLemmas
 pub mod ReadingLemmas
+pub mod SizeLemmas
+pub mod SpelledLemmas
+mod Vectors

@@ -7,8 +7,9 @@ use Rattle.std.proofs.lemmas.List.{append-nil, length-take}
 use Rattle.vast_value.specs.declared.cell.Cell.{Cell}
 use Rattle.vast_value.specs.declared.column.Column.{Column}
 use Rattle.vast_value.specs.Headings.{field_of}
-use Rattle.event_batch.specs.declared.unread.Unread.{Unread}
-use Rattle.event_batch.specs.declared.unread.Unread.TheVariants as unread
+use Rattle.event_batch.specs.declared.packed_end.PackedEnd.{PackedEnd}
+use Rattle.event_batch.specs.declared.packed_end.PackedEnd.TheVariants as packed_end
+use Rattle.event_batch.specs.declared.format.Format.{Format}
 use Rattle.event_batch.specs.Answers.{Fails, Gives}
 use Rattle.event_batch.specs.Reading.{◌>>=◌, number_at, text_at, many_at, cell_at, row_at}
 
@@ -28,11 +29,11 @@ goes_on one front count i bytes n after total lt h so_far =
     let here : with_front front (many_at one (count - i) bytes) ≡ with_front (front ++ n ∷ []) (many_at one (count - (i + 1)) after) = rw (k, h) (regroup front n (many_at one (count - (i + 1)) after)) in
     sym here ∙ so_far
 
-pub ends : {A : Type 0} (one : List ℕ → Option (A × List ℕ)) (e : Unread) (front : List A) (count i : ℕ) (bytes : List ℕ) (total : Option (List A × List ℕ)) → i < count → Fails e (one bytes)
+pub ends : {A : Type 0} (one : List ℕ → Option (A × List ℕ)) (e : PackedEnd) (front : List A) (count i : ℕ) (bytes : List ℕ) (total : Option (List A × List ℕ)) → i < count → Fails e (one bytes)
     → with_front front (many_at one (count - i) bytes) ≡ total → Fails e total
 unfolding many_at
-ends one unread.Memory front count i bytes total lt h so_far = tt
-ends one unread.NotABatch front count i bytes total lt h so_far =
+ends one packed_end.Memory front count i bytes total lt h so_far = tt
+ends one packed_end.NotABatch front count i bytes total lt h so_far =
     let k : count - i ≡ suc (count - (i + 1)) = omega arith in
     let here : with_front front (many_at one (count - i) bytes) ≡ None = rw (k, h) refl in
     sym so_far ∙ here
@@ -49,28 +50,28 @@ next_column cs i c lt is =
     let parts : drop i cs ≡ get_or cs i c ∷ drop (i + 1) cs = rw add-one (drop-cons cs i c lt) in
     rw (parts, ← is) refl
 
-pub row_goes_on : (cs : List Column) (front : List Cell) (i : ℕ) (c : Column) (bytes : List ℕ) (n : Cell) (after : List ℕ) (total : Option (List Cell × List ℕ)) → i < length cs → c ≡ get_or cs i c → cell_at c.kind bytes ≡ Some (n, after)
-    → with_front front (row_at (map field_of (drop i cs)) bytes) ≡ total → with_front (front ++ n ∷ []) (row_at (map field_of (drop (i + 1) cs)) after) ≡ total
+pub row_goes_on : (f : Format) (cs : List Column) (front : List Cell) (i : ℕ) (c : Column) (bytes : List ℕ) (n : Cell) (after : List ℕ) (total : Option (List Cell × List ℕ)) → i < length cs → c ≡ get_or cs i c → cell_at f c.kind bytes ≡ Some (n, after)
+    → with_front front (row_at f (map field_of (drop i cs)) bytes) ≡ total → with_front (front ++ n ∷ []) (row_at f (map field_of (drop (i + 1) cs)) after) ≡ total
 unfolding row_at
-row_goes_on cs front i c bytes n after total lt is h so_far =
-    let here : with_front front (row_at (map field_of (drop i cs)) bytes) ≡ with_front (front ++ n ∷ []) (row_at (map field_of (drop (i + 1) cs)) after) = rw (next_column cs i c lt is, h) (regroup front n (row_at (map field_of (drop (i + 1) cs)) after)) in
+row_goes_on f cs front i c bytes n after total lt is h so_far =
+    let here : with_front front (row_at f (map field_of (drop i cs)) bytes) ≡ with_front (front ++ n ∷ []) (row_at f (map field_of (drop (i + 1) cs)) after) = rw (next_column cs i c lt is, h) (regroup front n (row_at f (map field_of (drop (i + 1) cs)) after)) in
     sym here ∙ so_far
 
-pub row_ends : (cs : List Column) (e : Unread) (front : List Cell) (i : ℕ) (c : Column) (bytes : List ℕ) (total : Option (List Cell × List ℕ)) → i < length cs → c ≡ get_or cs i c → Fails e (cell_at c.kind bytes)
-    → with_front front (row_at (map field_of (drop i cs)) bytes) ≡ total → Fails e total
+pub row_ends : (f : Format) (cs : List Column) (e : PackedEnd) (front : List Cell) (i : ℕ) (c : Column) (bytes : List ℕ) (total : Option (List Cell × List ℕ)) → i < length cs → c ≡ get_or cs i c → Fails e (cell_at f c.kind bytes)
+    → with_front front (row_at f (map field_of (drop i cs)) bytes) ≡ total → Fails e total
 unfolding row_at
-row_ends cs unread.Memory front i c bytes total lt is h so_far = tt
-row_ends cs unread.NotABatch front i c bytes total lt is h so_far =
-    let here : with_front front (row_at (map field_of (drop i cs)) bytes) ≡ None = rw (next_column cs i c lt is, h) refl in
+row_ends f cs packed_end.Memory front i c bytes total lt is h so_far = tt
+row_ends f cs packed_end.NotABatch front i c bytes total lt is h so_far =
+    let here : with_front front (row_at f (map field_of (drop i cs)) bytes) ≡ None = rw (next_column cs i c lt is, h) refl in
     sym so_far ∙ here
 
 nothing_left : (cs : List Column) (i : ℕ) → length cs ≤ i → drop i cs ≡ []
 nothing_left cs i le = grind (arith, common_steps)
 
-pub row_is_done : (cs : List Column) (front : List Cell) (i : ℕ) (bytes : List ℕ) (total : Option (List Cell × List ℕ)) → length cs ≤ i → with_front front (row_at (map field_of (drop i cs)) bytes) ≡ total → total ≡ Some (front, bytes)
+pub row_is_done : (f : Format) (cs : List Column) (front : List Cell) (i : ℕ) (bytes : List ℕ) (total : Option (List Cell × List ℕ)) → length cs ≤ i → with_front front (row_at f (map field_of (drop i cs)) bytes) ≡ total → total ≡ Some (front, bytes)
 unfolding row_at
-row_is_done cs front i bytes total le so_far =
-    let here : with_front front (row_at (map field_of (drop i cs)) bytes) ≡ Some (front, bytes) = rw (nothing_left cs i le) (ap (λ (ns : List Cell). Some (ns, bytes)) (append-nil front)) in
+row_is_done f cs front i bytes total le so_far =
+    let here : with_front front (row_at f (map field_of (drop i cs)) bytes) ≡ Some (front, bytes) = rw (nothing_left cs i le) (ap (λ (ns : List Cell). Some (ns, bytes)) (append-nil front)) in
     sym so_far ∙ here
 
 -- a text that is read is short
@@ -87,7 +88,7 @@ from_number (Some m) y h =
     let text : take m.0 m.1 ≡ y.0 = ap (λ (p : List ℕ × List ℕ). p.0) parts.1 in
     rw (← text) (omega (arith, length-take m.0 m.1))
 
-pub text_is_short : {R : Type 0} (now : R → List ℕ) (r : Result (List ℕ × R) Unread) (bytes : List ℕ) → Gives (λ x. (x.0, now x.1)) r (text_at bytes) → IfOk r (λ x. length x.0 ≤ 2 ^ 24)
+pub text_is_short : {R : Type 0} (now : R → List ℕ) (r : Result (List ℕ × R) PackedEnd) (bytes : List ℕ) → Gives (λ x. (x.0, now x.1)) r (text_at bytes) → IfOk r (λ x. length x.0 ≤ 2 ^ 24)
 unfolding text_at
 text_is_short now (Ok x) bytes h = from_number (number_at 4 bytes) (x.0, now x.1) h
 text_is_short now (Err e) bytes h = tt

@@ -14,7 +14,11 @@ use Rattle.vast_value.specs.declared.cell.Cell.{Cell}
 use Rattle.vast_value.specs.declared.cell.Cell.TheVariants as cell
 use Rattle.vast_value.specs.Headings.{Field, Heading, heading_fault}
 use Rattle.vast_value.specs.Kinds.{is_lone_unset}
-use Rattle.event_batch.specs.Contents.{Content}
+use Rattle.vast_value.specs.declared.transport.Transport.TheVariants.{Unknown}
+use Rattle.vast_value.specs.Ports.{transport_coded}
+use Rattle.event_batch.specs.declared.format.Format.{Format}
+use Rattle.event_batch.specs.declared.format.Format.TheVariants.{First, Second}
+use Rattle.event_batch.specs.Contents.{Spelled}
 use Rattle.event_batch.specs.Sizes.{is_batch_size}
 use Rattle.vast_value.specs.Nets.{net_of}
 
@@ -58,25 +62,34 @@ net_at bytes = do
 abbrev pub reads_as : {A B : Type 0} → (A → B) → Option (A × List ℕ) → Option (B × List ℕ)
 reads_as f read = read >>= λ x. Some (f x.0, x.1)
 
-unfoldable pub value_at : Elem → List ℕ → Option (Value × List ℕ)
-value_at elem.Bool bytes = reads_as value.Bool (bool_at bytes)
-value_at elem.Count bytes = reads_as value.Count (number_at 8 bytes)
-value_at elem.Int bytes = reads_as value.Int (signed_at bytes)
-value_at elem.Time bytes = reads_as value.Time (signed_at bytes)
-value_at elem.Span bytes = reads_as value.Span (signed_at bytes)
-value_at elem.Text bytes = reads_as value.Text (text_at bytes)
-value_at elem.Name bytes = reads_as value.Name (text_at bytes)
-value_at elem.Addr bytes = reads_as value.Addr (number_at 16 bytes)
-value_at elem.Subnet bytes = reads_as value.Subnet (net_at bytes)
-value_at elem.Port bytes = reads_as value.Port (number_at 2 bytes)
+-- in the first format a port is its number alone, and has no transport
+unfoldable pub port_at : Format → List ℕ → Option (Value × List ℕ)
+port_at First bytes = reads_as (λ p. value.Port p Unknown) (number_at 2 bytes)
+port_at Second bytes = do
+  n ← number_at 2 bytes
+  code ← byte_at n.1
+  over ← transport_coded code.0
+  Some (value.Port n.0 over, code.1)
 
-unfoldable pub element_at : Elem → List ℕ → Option (Option Value × List ℕ)
-element_at e [] = None
-element_at e (zero ∷ rest) = Some (None, rest)
-element_at e (suc zero ∷ rest) = do
-  v ← value_at e rest
+unfoldable pub value_at : Format → Elem → List ℕ → Option (Value × List ℕ)
+value_at f elem.Bool bytes = reads_as value.Bool (bool_at bytes)
+value_at f elem.Count bytes = reads_as value.Count (number_at 8 bytes)
+value_at f elem.Int bytes = reads_as value.Int (signed_at bytes)
+value_at f elem.Time bytes = reads_as value.Time (signed_at bytes)
+value_at f elem.Span bytes = reads_as value.Span (signed_at bytes)
+value_at f elem.Text bytes = reads_as value.Text (text_at bytes)
+value_at f elem.Name bytes = reads_as value.Name (text_at bytes)
+value_at f elem.Addr bytes = reads_as value.Addr (number_at 16 bytes)
+value_at f elem.Subnet bytes = reads_as value.Subnet (net_at bytes)
+value_at f elem.Port bytes = port_at f bytes
+
+unfoldable pub element_at : Format → Elem → List ℕ → Option (Option Value × List ℕ)
+element_at f e [] = None
+element_at f e (zero ∷ rest) = Some (None, rest)
+element_at f e (suc zero ∷ rest) = do
+  v ← value_at f e rest
   Some (Some v.0, v.1)
-element_at e (suc (suc b) ∷ rest) = None
+element_at f e (suc (suc b) ∷ rest) = None
 
 -- so many in a row
 unfoldable pub many_at : {A : Type 0} → (List ℕ → Option (A × List ℕ)) → ℕ → List ℕ → Option (List A × List ℕ)
@@ -86,29 +99,29 @@ many_at one (suc n) bytes = do
   others ← many_at one n first.1
   Some (first.0 ∷ others.0, others.1)
 
-unfoldable pub container_at : Elem → List ℕ → Option (Cell × List ℕ)
-container_at e bytes = do
+unfoldable pub container_at : Format → Elem → List ℕ → Option (Cell × List ℕ)
+container_at f e bytes = do
   n ← number_at 4 bytes
-  items ← if nat_lt (2 ^ 24) n.0 then None else many_at (element_at e) n.0 n.1
+  items ← if nat_lt (2 ^ 24) n.0 then None else many_at (element_at f e) n.0 n.1
   if is_lone_unset items.0 then None else Some (cell.Many items.0, items.1)
 
-unfoldable pub set_cell_at : Kind → List ℕ → Option (Cell × List ℕ)
-set_cell_at (kind.One e) bytes = reads_as cell.One (value_at e bytes)
-set_cell_at (kind.SetOf e) bytes = container_at e bytes
-set_cell_at (kind.VecOf e) bytes = container_at e bytes
+unfoldable pub set_cell_at : Format → Kind → List ℕ → Option (Cell × List ℕ)
+set_cell_at f (kind.One e) bytes = reads_as cell.One (value_at f e bytes)
+set_cell_at f (kind.SetOf e) bytes = container_at f e bytes
+set_cell_at f (kind.VecOf e) bytes = container_at f e bytes
 
-unfoldable pub cell_at : Kind → List ℕ → Option (Cell × List ℕ)
-cell_at k [] = None
-cell_at k (zero ∷ rest) = Some (cell.Unset, rest)
-cell_at k (suc zero ∷ rest) = set_cell_at k rest
-cell_at k (suc (suc b) ∷ rest) = None
+unfoldable pub cell_at : Format → Kind → List ℕ → Option (Cell × List ℕ)
+cell_at f k [] = None
+cell_at f k (zero ∷ rest) = Some (cell.Unset, rest)
+cell_at f k (suc zero ∷ rest) = set_cell_at f k rest
+cell_at f k (suc (suc b) ∷ rest) = None
 
 -- a cell for each field
-unfoldable pub row_at : List Field → List ℕ → Option (List Cell × List ℕ)
-row_at [] bytes = Some ([], bytes)
-row_at (f ∷ fs) bytes = do
-  first ← cell_at f.kind bytes
-  others ← row_at fs first.1
+unfoldable pub row_at : Format → List Field → List ℕ → Option (List Cell × List ℕ)
+row_at f [] bytes = Some ([], bytes)
+row_at f (field ∷ fields) bytes = do
+  first ← cell_at f field.kind bytes
+  others ← row_at f fields first.1
   Some (first.0 ∷ others.0, others.1)
 
 abbrev pub every_elem : List Elem
@@ -141,17 +154,21 @@ heading_at bytes = do
   checked (record { path = path.0; fields = fields.0 }, fields.1)
 
 -- the rows of a batch, behind the heading
-unfoldable pub rows_at : List Field → List ℕ → Option (List (List Cell))
-rows_at fields bytes = do
+unfoldable pub rows_at : Format → List Field → List ℕ → Option (List (List Cell))
+rows_at f fields bytes = do
   n ← number_at 4 bytes
-  rows ← if is_batch_size n.0 then many_at (row_at fields) n.0 n.1 else None
+  rows ← if is_batch_size n.0 then many_at (row_at f fields) n.0 n.1 else None
   if length rows.1 == 0 then Some rows.0 else None
 
+unfoldable pub format_coded : ℕ → Option Format
+format_coded b = if b == 1 then Some First else (if b == 2 then Some Second else None)
+
 -- all of the bytes
-unfoldable pub content_at : List ℕ → Option Content
+unfoldable pub content_at : List ℕ → Option Spelled
 content_at bytes = do
-  format ← byte_at bytes
-  source ← if format.0 == 1 then number_at 4 format.1 else None
+  code ← byte_at bytes
+  f ← format_coded code.0
+  source ← number_at 4 code.1
   heading ← heading_at source.1
-  rows ← rows_at heading.0.fields heading.1
-  Some (record { source = source.0; heading = heading.0; rows = rows })
+  rows ← rows_at f heading.0.fields heading.1
+  Some (record { format = f; content = record { source = source.0; heading = heading.0; rows = rows } })

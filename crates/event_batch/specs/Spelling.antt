@@ -1,26 +1,19 @@
--- The one spelling of a batch, in format 1. Numbers are little endian.
-use Rattle.std.specs.Prelude.{ℕ, ◌+◌, true, false, List, [], ◌∷◌, ◌++◌, length, Option, None, Some}
-use Rattle.std.specs.Int.{w64, cast_unsigned}
+-- The one spelling of a batch in each format. Numbers are little endian.
+use Rattle.std.specs.Prelude.{◌≡◌, ℕ, ◌+◌, true, List, [], ◌∷◌, ◌++◌, length, Option, None, Some}
 use Rattle.std.specs.List.{flat_map}
-use Rattle.byteorder.specs.Endian.{little_bytes}
 use Rattle.vast_value.specs.declared.kind.Elem.{Elem}
 use Rattle.vast_value.specs.declared.kind.Elem.TheVariants as elem
 use Rattle.vast_value.specs.declared.kind.Kind.{Kind}
 use Rattle.vast_value.specs.declared.kind.Kind.TheVariants as kind
 use Rattle.vast_value.specs.declared.value.Value.{Value}
-use Rattle.vast_value.specs.declared.value.Value.TheVariants.{Bool as BoolOf, Count, Int, Time, Span, Text, Name, Addr, Subnet, Port}
+use Rattle.vast_value.specs.declared.value.Value.TheVariants.{Port}
 use Rattle.vast_value.specs.declared.cell.Cell.{Cell}
 use Rattle.vast_value.specs.declared.cell.Cell.TheVariants.{Unset, One, Many}
 use Rattle.vast_value.specs.Headings.{Field, Heading}
-use Rattle.event_batch.specs.Contents.{Content}
-
--- the lowest n bytes of a number, the lowest first
-unfoldable pub number : ℕ → ℕ → List ℕ
-number n x = little_bytes n x
-
--- a length of four bytes, and that many bytes
-abbrev pub text : List ℕ → List ℕ
-text t = number 4 (length t) ++ t
+use Rattle.vast_value.specs.ValueBytes.{number, text, value_bytes}
+use Rattle.event_batch.specs.declared.format.Format.{Format}
+use Rattle.event_batch.specs.declared.format.Format.TheVariants.{First, Second}
+use Rattle.event_batch.specs.Contents.{Content, Spelled, is_spellable}
 
 abbrev pub elem_code : Elem → ℕ
 elem_code elem.Bool = 0
@@ -40,40 +33,45 @@ kind_code (kind.One e) = elem_code e
 kind_code (kind.SetOf e) = elem_code e + 16
 kind_code (kind.VecOf e) = elem_code e + 32
 
-abbrev pub value_bytes : Value → List ℕ
-value_bytes (BoolOf false) = 0 ∷ []
-value_bytes (BoolOf true) = 1 ∷ []
-value_bytes (Count n) = number 8 n
-value_bytes (Int z) = number 8 (cast_unsigned w64 z)
-value_bytes (Time z) = number 8 (cast_unsigned w64 z)
-value_bytes (Span z) = number 8 (cast_unsigned w64 z)
-value_bytes (Text t) = text t
-value_bytes (Name t) = text t
-value_bytes (Addr a) = number 16 a
-value_bytes (Subnet n) = number 16 n.base ++ n.bits ∷ []
-value_bytes (Port p) = number 2 p
+abbrev pub format_code : Format → ℕ
+format_code First = 1
+format_code Second = 2
+
+-- in the first format a port is its number alone
+abbrev pub value_bytes_in : Format → Value → List ℕ
+value_bytes_in First (Port p over) = number 2 p
+value_bytes_in f v = value_bytes v
 
 -- 0 for an unset element, or 1 and the value
-abbrev pub element_bytes : Option Value → List ℕ
-element_bytes None = 0 ∷ []
-element_bytes (Some v) = 1 ∷ value_bytes v
+abbrev pub element_bytes : Format → Option Value → List ℕ
+element_bytes f None = 0 ∷ []
+element_bytes f (Some v) = 1 ∷ value_bytes_in f v
 
 -- 0 for an unset cell, or 1 and the value; a container is the number of its elements and these
-abbrev pub cell_bytes : Cell → List ℕ
-cell_bytes Unset = 0 ∷ []
-cell_bytes (One v) = 1 ∷ value_bytes v
-cell_bytes (Many items) = 1 ∷ (number 4 (length items) ++ flat_map element_bytes items)
+abbrev pub cell_bytes : Format → Cell → List ℕ
+cell_bytes f Unset = 0 ∷ []
+cell_bytes f (One v) = 1 ∷ value_bytes_in f v
+cell_bytes f (Many items) = 1 ∷ (number 4 (length items) ++ flat_map (element_bytes f) items)
 
-abbrev pub row_bytes : List Cell → List ℕ
-row_bytes cells = flat_map cell_bytes cells
+abbrev pub row_bytes : Format → List Cell → List ℕ
+row_bytes f cells = flat_map (cell_bytes f) cells
 
 abbrev pub field_bytes : Field → List ℕ
-field_bytes f = kind_code f.kind ∷ text f.name
+field_bytes field = kind_code field.kind ∷ text field.name
 
 -- the path, the number of columns, and the columns
 abbrev pub heading_bytes : Heading → List ℕ
 heading_bytes h = text h.path ++ (number 2 (length h.fields) ++ flat_map field_bytes h.fields)
 
--- format 1, the source, the heading, the number of rows, and the rows
-abbrev pub spelling : Content → List ℕ
-spelling c = 1 ∷ (number 4 c.source ++ (heading_bytes c.heading ++ (number 4 (length c.rows) ++ flat_map row_bytes c.rows)))
+-- the source, the heading, the number of rows, and the rows
+abbrev pub content_bytes : Format → Content → List ℕ
+content_bytes f c = number 4 c.source ++ (heading_bytes c.heading ++ (number 4 (length c.rows) ++ flat_map (row_bytes f) c.rows))
+
+-- the format and the content
+abbrev pub spelling : Spelled → List ℕ
+spelling s = format_code s.format ∷ content_bytes s.format s.content
+
+-- the bytes spell this batch in this format
+pub record Spells (bytes : List ℕ) (s : Spelled) : Type 0 where
+  pub spelled : bytes ≡ spelling s
+  pub spellable : is_spellable s ≡ true

@@ -1,7 +1,7 @@
 //! Where the numbers of a batch lie in its bytes.
 ghost use Rattle.std.specs.Prelude.{◌≡◌, length, Some};
 ghost use Rattle.std.specs.Option.{option_map};
-ghost use Rattle.event_batch.specs.Packings.{IsSpelled, content_in};
+ghost use Rattle.event_batch.specs.Packings.{IsSpelled, said_in};
 ghost use Rattle.event_batch.specs.Reading.{byte_at, number_at};
 ghost use Rattle.event_batch.specs.Places.{behind_text, behind_field, behind_fields, source_at, row_count_at};
 
@@ -10,7 +10,7 @@ use byteorder::{ByteOrder, LittleEndian};
 /// The number of the source.
 pub(crate) fn source_in(bytes: &[u8]) -> u32
     requires { IsSpelled bytes.now }
-    ensures { result ≡ (content_in bytes.now).source }
+    ensures { result ≡ (said_in bytes.now).content.source }
 {
     match source_at(bytes) {
         Some((source, _)) => source,
@@ -21,7 +21,7 @@ pub(crate) fn source_in(bytes: &[u8]) -> u32
 /// The number of rows.
 pub(crate) fn row_count_in(bytes: &[u8]) -> u32
     requires { IsSpelled bytes.now }
-    ensures { result ≡ length (content_in bytes.now).rows }
+    ensures { result ≡ length (said_in bytes.now).content.rows }
 {
     match row_count_at(bytes) {
         Some((count, _)) => count,

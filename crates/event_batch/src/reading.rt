@@ -1,76 +1,78 @@
 //! Reading the bytes of a batch. Each function gives a value and the bytes behind it.
-ghost use Rattle.std.specs.Prelude.{◌≡◌, ◌≤◌, ◌^◌, length, map, IfOk, ◌-◌, ◌%◌, ◌==◌};
+ghost use Rattle.std.specs.Prelude.{◌≡◌, ◌≤◌, ◌^◌, length, map, IfOk, IfErr, OnOk, ◌-◌, ◌%◌, ◌==◌};
 ghost use Rattle.vast_value.specs.Headings.{field_of, heading_of};
 ghost use Rattle.vast_value.specs.Kinds.{is_lone_unset};
-ghost use Rattle.event_batch.specs.Answers.{Gives};
-ghost use Rattle.event_batch.specs.Contents.{content_of};
-ghost use Rattle.event_batch.specs.Packings.{IsSpelled, content_in};
+ghost use Rattle.event_batch.specs.Answers.{Gives, said_by};
+ghost use Rattle.event_batch.specs.declared.packed_end.PackedEnd.TheVariants.{NotABatch};
+ghost use Rattle.event_batch.specs.Contents.{Spelled, content_of};
+ghost use Rattle.event_batch.specs.Packings.{IsSpelled, said_in};
+ghost use Rattle.event_batch.specs.Spelling.{Spells};
 ghost use Rattle.vast_value.specs.Nets.{net_of};
-ghost use Rattle.event_batch.specs.Reading.{byte_at, number_at, signed_at, text_at, bool_at, net_at, value_at, element_at, many_at, container_at, set_cell_at, cell_at, row_at, elem_of_code, kind_of_code, field_at, heading_at, rows_at, content_at};
+ghost use Rattle.event_batch.specs.Reading.{byte_at, number_at, signed_at, text_at, bool_at, net_at, port_at, value_at, element_at, many_at, container_at, set_cell_at, cell_at, row_at, elem_of_code, kind_of_code, field_at, heading_at, rows_at, content_at};
 
 use crate::batch::{Batch, MOST_ROWS};
+use crate::format::Format;
+use crate::packed_end::PackedEnd;
 use crate::rows::Rows;
-use crate::unread::Unread;
-use crate::writing::FORMAT;
 use byteorder::{ByteOrder, LittleEndian};
 use std::alloc::{AllocError, Global};
-use vast_value::{Bytes, Cell, Cells, Column, Columns, Elem, Kind, Layout, Net, Row, Value};
-
-/// The most bytes of a text and the most elements of a container.
-const LONGEST: u32 = 1 << 24;
+use vast_value::{
+    Bytes, Cell, Cells, Column, Columns, Elem, Kind, Layout, MOST_PARTS, Net, Row, Transport,
+    Value, ranged_bytes,
+};
 
 #[tactic(auto, unfolding(crate::specs::Reading::byte_at))]
-fn u8_at(bytes: &[u8]) -> Result<(u8, &[u8]), Unread>
+fn u8_at(bytes: &[u8]) -> Result<(u8, &[u8]), PackedEnd>
     ensures { Gives (λ x. (x.0, x.1.now)) result (byte_at bytes.now) }
 {
     match bytes {
-        [] => Err(Unread::NotABatch),
+        [] => Err(PackedEnd::NotABatch),
         [byte, rest @ ..] => Ok((*byte, rest)),
     }
 }
 
 #[tactic(auto, unfolding(crate::specs::Reading::number_at))]
-fn u16_at(bytes: &[u8]) -> Result<(u16, &[u8]), Unread>
+fn u16_at(bytes: &[u8]) -> Result<(u16, &[u8]), PackedEnd>
     ensures { Gives (λ x. (x.0, x.1.now)) result (number_at 2 bytes.now) }
 {
     if bytes.len() < 2 {
-        return Err(Unread::NotABatch);
+        return Err(PackedEnd::NotABatch);
     }
     Ok((LittleEndian::read_u16(bytes), &bytes[2..]))
 }
 
 #[tactic(auto, unfolding(crate::specs::Reading::number_at))]
-fn u32_at(bytes: &[u8]) -> Result<(u32, &[u8]), Unread>
+fn u32_at(bytes: &[u8]) -> Result<(u32, &[u8]), PackedEnd>
     ensures { Gives (λ x. (x.0, x.1.now)) result (number_at 4 bytes.now) }
 {
     if bytes.len() < 4 {
-        return Err(Unread::NotABatch);
+        return Err(PackedEnd::NotABatch);
     }
     Ok((LittleEndian::read_u32(bytes), &bytes[4..]))
 }
 
 #[tactic(auto, unfolding(crate::specs::Reading::number_at))]
-fn u64_at(bytes: &[u8]) -> Result<(u64, &[u8]), Unread>
+fn u64_at(bytes: &[u8]) -> Result<(u64, &[u8]), PackedEnd>
     ensures { Gives (λ x. (x.0, x.1.now)) result (number_at 8 bytes.now) }
 {
     if bytes.len() < 8 {
-        return Err(Unread::NotABatch);
+        return Err(PackedEnd::NotABatch);
     }
     Ok((LittleEndian::read_u64(bytes), &bytes[8..]))
 }
 
 #[tactic(auto, unfolding(crate::specs::Reading::number_at))]
-fn u128_at(bytes: &[u8]) -> Result<(u128, &[u8]), Unread>
+fn u128_at(bytes: &[u8]) -> Result<(u128, &[u8]), PackedEnd>
     ensures { Gives (λ x. (x.0, x.1.now)) result (number_at 16 bytes.now) }
 {
     if bytes.len() < 16 {
-        return Err(Unread::NotABatch);
+        return Err(PackedEnd::NotABatch);
     }
     Ok((LittleEndian::read_u128(bytes), &bytes[16..]))
 }
 
 #[tactic(auto, unfolding(crate::specs::Reading::signed_at))]
-fn i64_at(bytes: &[u8]) -> Result<(i64, &[u8]), Unread>
+fn i64_at(bytes: &[u8]) -> Result<(i64, &[u8]), PackedEnd>
     ensures { Gives (λ x. (x.0, x.1.now)) result (signed_at bytes.now) }
 {
     let (number, rest) = u64_at(bytes)?;
@@ -78,24 +80,24 @@ fn i64_at(bytes: &[u8]) -> Result<(i64, &[u8]), Unread>
 }
 
 #[tactic(auto, unfolding(crate::specs::Reading::bool_at))]
-fn bool_at(bytes: &[u8]) -> Result<(bool, &[u8]), Unread>
+fn bool_at(bytes: &[u8]) -> Result<(bool, &[u8]), PackedEnd>
     ensures { Gives (λ x. (x.0, x.1.now)) result (bool_at bytes.now) }
 {
     match bytes {
-        [] => Err(Unread::NotABatch),
+        [] => Err(PackedEnd::NotABatch),
         [0, rest @ ..] => Ok((false, rest)),
         [1, rest @ ..] => Ok((true, rest)),
-        [_, ..] => Err(Unread::NotABatch),
+        [_, ..] => Err(PackedEnd::NotABatch),
     }
 }
 
 #[tactic(auto, unfolding(crate::specs::Reading::text_at))]
-fn text_at(alloc: Global, bytes: &[u8]) -> Result<(Bytes, &[u8]), Unread>
+fn text_at(alloc: Global, bytes: &[u8]) -> Result<(Bytes, &[u8]), PackedEnd>
     ensures { Gives (λ x. (x.0, x.1.now)) result (text_at bytes.now) }
 {
     let (count, rest) = u32_at(bytes)?;
-    if count > LONGEST || rest.len() < count as usize {
-        return Err(Unread::NotABatch);
+    if count as usize > MOST_PARTS || rest.len() < count as usize {
+        return Err(PackedEnd::NotABatch);
     }
     let (text, rest) = rest.split_at(count as usize);
     Ok((Bytes::copy(alloc, text)?, rest))
@@ -123,20 +125,45 @@ fn has_zeros(base: u128, bits: u8) -> bool
 }
 
 #[tactic(auto, unfolding(crate::specs::Reading::net_at))]
-fn net_at(bytes: &[u8]) -> Result<(Net, &[u8]), Unread>
+fn net_at(bytes: &[u8]) -> Result<(Net, &[u8]), PackedEnd>
     ensures { Gives (λ x. (x.0, x.1.now)) result (net_at bytes.now) }
 {
     let (base, rest) = u128_at(bytes)?;
     let (bits, rest) = u8_at(rest)?;
     match net_of(base, bits) {
-        None => Err(Unread::NotABatch),
+        None => Err(PackedEnd::NotABatch),
         Some(net) => Ok((net, rest)),
     }
 }
 
+#[tactic(auto, unfolding(crate::specs::Reading::port_at))]
+fn port_at(format: Format, bytes: &[u8]) -> Result<(Value, &[u8]), PackedEnd>
+    ensures { Gives (λ x. (x.0, x.1.now)) result (port_at format bytes.now) }
+{
+    let (number, rest) = u16_at(bytes)?;
+    match format {
+        Format::First => {
+            let over = Transport::Unknown;
+            Ok((Value::Port { number, over }, rest))
+        }
+        Format::Second => {
+            let (code, rest) = u8_at(rest)?;
+            let Some(over) = Transport::coded(code) else {
+                return Err(PackedEnd::NotABatch);
+            };
+            Ok((Value::Port { number, over }, rest))
+        }
+    }
+}
+
 #[tactic(auto, unfolding(crate::specs::Reading::value_at))]
-fn value_at(alloc: Global, elem: Elem, bytes: &[u8]) -> Result<(Value, &[u8]), Unread>
-    ensures { Gives (λ x. (x.0, x.1.now)) result (value_at elem bytes.now) }
+fn value_at(
+    alloc: Global,
+    format: Format,
+    elem: Elem,
+    bytes: &[u8],
+) -> Result<(Value, &[u8]), PackedEnd>
+    ensures { Gives (λ x. (x.0, x.1.now)) result (value_at format elem bytes.now) }
 {
     match elem {
         Elem::Bool => {
@@ -175,40 +202,43 @@ fn value_at(alloc: Global, elem: Elem, bytes: &[u8]) -> Result<(Value, &[u8]), U
             let (net, rest) = net_at(bytes)?;
             Ok((Value::Subnet(net), rest))
         }
-        Elem::Port => {
-            let (port, rest) = u16_at(bytes)?;
-            Ok((Value::Port(port), rest))
-        }
+        Elem::Port => port_at(format, bytes),
     }
 }
 
 #[tactic(auto, unfolding(crate::specs::Reading::element_at))]
-fn element_at(alloc: Global, elem: Elem, bytes: &[u8]) -> Result<(Option<Value>, &[u8]), Unread>
-    ensures { Gives (λ x. (x.0, x.1.now)) result (element_at elem bytes.now) }
+fn element_at(
+    alloc: Global,
+    format: Format,
+    elem: Elem,
+    bytes: &[u8],
+) -> Result<(Option<Value>, &[u8]), PackedEnd>
+    ensures { Gives (λ x. (x.0, x.1.now)) result (element_at format elem bytes.now) }
 {
     match bytes {
-        [] => Err(Unread::NotABatch),
+        [] => Err(PackedEnd::NotABatch),
         [0, rest @ ..] => Ok((None, rest)),
         [1, rest @ ..] => {
-            let (value, rest) = value_at(alloc, elem, rest)?;
+            let (value, rest) = value_at(alloc, format, elem, rest)?;
             Ok((Some(value), rest))
         }
-        [_, ..] => Err(Unread::NotABatch),
+        [_, ..] => Err(PackedEnd::NotABatch),
     }
 }
 
 fn elements_at(
     alloc: Global,
+    format: Format,
     elem: Elem,
     count: u32,
     bytes: &[u8],
-) -> Result<(Cells, &[u8]), Unread>
-    ensures { Gives (λ x. (x.0, x.1.now)) result (many_at (element_at elem) count bytes.now) }
+) -> Result<(Cells, &[u8]), PackedEnd>
+    ensures { Gives (λ x. (x.0, x.1.now)) result (many_at (element_at format elem) count bytes.now) }
 {
     let mut items = Cells::new(alloc);
     let mut rest = bytes;
     for _ in 0..count {
-        let (item, after) = element_at(alloc, elem, rest)?;
+        let (item, after) = element_at(alloc, format, elem, rest)?;
         items.push(item)?;
         rest = after;
     }
@@ -216,16 +246,21 @@ fn elements_at(
 }
 
 #[tactic(auto, unfolding(crate::specs::Reading::container_at))]
-fn container_at(alloc: Global, elem: Elem, bytes: &[u8]) -> Result<(Cell, &[u8]), Unread>
-    ensures { Gives (λ x. (x.0, x.1.now)) result (container_at elem bytes.now) }
+fn container_at(
+    alloc: Global,
+    format: Format,
+    elem: Elem,
+    bytes: &[u8],
+) -> Result<(Cell, &[u8]), PackedEnd>
+    ensures { Gives (λ x. (x.0, x.1.now)) result (container_at format elem bytes.now) }
 {
     let (count, rest) = u32_at(bytes)?;
-    if count > LONGEST {
-        return Err(Unread::NotABatch);
+    if count as usize > MOST_PARTS {
+        return Err(PackedEnd::NotABatch);
     }
-    let (items, rest) = elements_at(alloc, elem, count, rest)?;
+    let (items, rest) = elements_at(alloc, format, elem, count, rest)?;
     if is_lone_unset(&items) {
-        return Err(Unread::NotABatch);
+        return Err(PackedEnd::NotABatch);
     }
     Ok((Cell::Many(items), rest))
 }
@@ -237,38 +272,53 @@ fn is_lone_unset(items: &Cells) -> bool
 }
 
 #[tactic(auto, unfolding(crate::specs::Reading::set_cell_at))]
-fn set_cell_at(alloc: Global, kind: Kind, bytes: &[u8]) -> Result<(Cell, &[u8]), Unread>
-    ensures { Gives (λ x. (x.0, x.1.now)) result (set_cell_at kind bytes.now) }
+fn set_cell_at(
+    alloc: Global,
+    format: Format,
+    kind: Kind,
+    bytes: &[u8],
+) -> Result<(Cell, &[u8]), PackedEnd>
+    ensures { Gives (λ x. (x.0, x.1.now)) result (set_cell_at format kind bytes.now) }
 {
     match kind {
         Kind::One(elem) => {
-            let (value, rest) = value_at(alloc, elem, bytes)?;
+            let (value, rest) = value_at(alloc, format, elem, bytes)?;
             Ok((Cell::One(value), rest))
         }
-        Kind::SetOf(elem) => container_at(alloc, elem, bytes),
-        Kind::VecOf(elem) => container_at(alloc, elem, bytes),
+        Kind::SetOf(elem) => container_at(alloc, format, elem, bytes),
+        Kind::VecOf(elem) => container_at(alloc, format, elem, bytes),
     }
 }
 
 #[tactic(auto, unfolding(crate::specs::Reading::cell_at))]
-fn cell_at(alloc: Global, kind: Kind, bytes: &[u8]) -> Result<(Cell, &[u8]), Unread>
-    ensures { Gives (λ x. (x.0, x.1.now)) result (cell_at kind bytes.now) }
+fn cell_at(
+    alloc: Global,
+    format: Format,
+    kind: Kind,
+    bytes: &[u8],
+) -> Result<(Cell, &[u8]), PackedEnd>
+    ensures { Gives (λ x. (x.0, x.1.now)) result (cell_at format kind bytes.now) }
 {
     match bytes {
-        [] => Err(Unread::NotABatch),
+        [] => Err(PackedEnd::NotABatch),
         [0, rest @ ..] => Ok((Cell::Unset, rest)),
-        [1, rest @ ..] => set_cell_at(alloc, kind, rest),
-        [_, ..] => Err(Unread::NotABatch),
+        [1, rest @ ..] => set_cell_at(alloc, format, kind, rest),
+        [_, ..] => Err(PackedEnd::NotABatch),
     }
 }
 
-fn row_at<'a>(alloc: Global, columns: &[Column], bytes: &'a [u8]) -> Result<(Row, &'a [u8]), Unread>
-    ensures { Gives (λ x. (x.0, x.1.now)) result (row_at (map field_of columns.now) bytes.now) }
+fn row_at<'a>(
+    alloc: Global,
+    format: Format,
+    columns: &[Column],
+    bytes: &'a [u8],
+) -> Result<(Row, &'a [u8]), PackedEnd>
+    ensures { Gives (λ x. (x.0, x.1.now)) result (row_at format (map field_of columns.now) bytes.now) }
 {
     let mut row = Row::with_capacity(alloc, columns.len())?;
     let mut rest = bytes;
     for column in columns {
-        let (cell, after) = cell_at(alloc, column.kind, rest)?;
+        let (cell, after) = cell_at(alloc, format, column.kind, rest)?;
         row.push(cell)?;
         rest = after;
     }
@@ -308,12 +358,12 @@ fn kind_of_code(code: u8) -> Option<Kind>
 }
 
 #[tactic(auto, unfolding(crate::specs::Reading::field_at))]
-fn column_at(alloc: Global, bytes: &[u8]) -> Result<(Column, &[u8]), Unread>
+fn column_at(alloc: Global, bytes: &[u8]) -> Result<(Column, &[u8]), PackedEnd>
     ensures { Gives (λ x. (field_of x.0, x.1.now)) result (field_at bytes.now) }
 {
     let (code, rest) = u8_at(bytes)?;
     match kind_of_code(code) {
-        None => Err(Unread::NotABatch),
+        None => Err(PackedEnd::NotABatch),
         Some(kind) => {
             let (name, rest) = name_at(alloc, rest)?;
             Ok((Column { name, kind }, rest))
@@ -321,14 +371,14 @@ fn column_at(alloc: Global, bytes: &[u8]) -> Result<(Column, &[u8]), Unread>
     }
 }
 
-fn name_at(alloc: Global, bytes: &[u8]) -> Result<(Bytes, &[u8]), Unread>
+fn name_at(alloc: Global, bytes: &[u8]) -> Result<(Bytes, &[u8]), PackedEnd>
     ensures read { Gives (λ x. (x.0, x.1.now)) result (text_at bytes.now) }
     ensures short { IfOk result (λ x. length x.0 ≤ 2 ^ 24) }
 {
     text_at(alloc, bytes)
 }
 
-fn columns_at(alloc: Global, count: u16, bytes: &[u8]) -> Result<(Columns, &[u8]), Unread>
+fn columns_at(alloc: Global, count: u16, bytes: &[u8]) -> Result<(Columns, &[u8]), PackedEnd>
     ensures { Gives (λ x. (map field_of x.0, x.1.now)) result (many_at field_at count bytes.now) }
 {
     let mut columns = Columns::new(alloc);
@@ -342,30 +392,31 @@ fn columns_at(alloc: Global, count: u16, bytes: &[u8]) -> Result<(Columns, &[u8]
 }
 
 #[tactic(auto, unfolding(crate::specs::Reading::heading_at))]
-fn layout_at(alloc: Global, bytes: &[u8]) -> Result<(Layout, &[u8]), Unread>
+fn layout_at(alloc: Global, bytes: &[u8]) -> Result<(Layout, &[u8]), PackedEnd>
     ensures { Gives (λ x. (heading_of x.0, x.1.now)) result (heading_at bytes.now) }
 {
     let (path, rest) = name_at(alloc, bytes)?;
     let (count, rest) = u16_at(rest)?;
     let (columns, rest) = columns_at(alloc, count, rest)?;
     match Layout::new(path, columns) {
-        Err(_) => Err(Unread::NotABatch),
+        Err(_) => Err(PackedEnd::NotABatch),
         Ok(layout) => Ok((layout, rest)),
     }
 }
 
 fn many_rows_at<'a>(
     alloc: Global,
+    format: Format,
     columns: &[Column],
     count: u32,
     bytes: &'a [u8],
-) -> Result<(Rows, &'a [u8]), Unread>
-    ensures { Gives (λ x. (x.0, x.1.now)) result (many_at (row_at (map field_of columns.now)) count bytes.now) }
+) -> Result<(Rows, &'a [u8]), PackedEnd>
+    ensures { Gives (λ x. (x.0, x.1.now)) result (many_at (row_at format (map field_of columns.now)) count bytes.now) }
 {
     let mut rows = Rows::with_capacity(alloc, count as usize)?;
     let mut rest = bytes;
     for _ in 0..count {
-        let (row, after) = row_at(alloc, columns, rest)?;
+        let (row, after) = row_at(alloc, format, columns, rest)?;
         rows.push(row)?;
         rest = after;
     }
@@ -373,42 +424,72 @@ fn many_rows_at<'a>(
 }
 
 #[tactic(auto, unfolding(crate::specs::Reading::rows_at))]
-fn rows_at(alloc: Global, columns: &[Column], bytes: &[u8]) -> Result<Rows, Unread>
-    ensures { Gives (λ x. x) result (rows_at (map field_of columns.now) bytes.now) }
+fn rows_at(
+    alloc: Global,
+    format: Format,
+    columns: &[Column],
+    bytes: &[u8],
+) -> Result<Rows, PackedEnd>
+    ensures { Gives (λ x. x) result (rows_at format (map field_of columns.now) bytes.now) }
 {
     let (count, rest) = u32_at(bytes)?;
     if count < 1 || count as usize > MOST_ROWS {
-        return Err(Unread::NotABatch);
+        return Err(PackedEnd::NotABatch);
     }
-    let (rows, rest) = many_rows_at(alloc, columns, count, rest)?;
+    let (rows, rest) = many_rows_at(alloc, format, columns, count, rest)?;
     if !rest.is_empty() {
-        return Err(Unread::NotABatch);
+        return Err(PackedEnd::NotABatch);
     }
     Ok(rows)
 }
 
+/// What the bytes of a batch say, where they are read.
+#[derive(Drop)]
+pub(crate) struct Parts {
+    format: Format,
+    source: u32,
+    layout: Layout,
+    rows: Rows,
+}
+
+/// What the bytes say. It is `NotABatch` exactly where they are not read.
 #[tactic(auto, unfolding(crate::specs::Reading::content_at))]
-fn parts_at(alloc: Global, bytes: &[u8]) -> Result<(u32, Layout, Rows), Unread>
-    ensures { Gives (λ x. record { source = x.0; heading = heading_of x.1; rows = x.2 }) result (content_at bytes.now) }
+pub(crate) fn parts_at(alloc: Global, bytes: &[u8]) -> Result<Parts, PackedEnd>
+    ensures { Gives said_by result (content_at bytes.now) }
 {
-    let (format, rest) = u8_at(bytes)?;
-    if format != FORMAT {
-        return Err(Unread::NotABatch);
-    }
+    let (code, rest) = u8_at(bytes)?;
+    let Some(format) = Format::coded(code) else {
+        return Err(PackedEnd::NotABatch);
+    };
     let (source, rest) = u32_at(rest)?;
     let (layout, rest) = layout_at(alloc, rest)?;
-    let rows = rows_at(alloc, layout.columns(), rest)?;
-    Ok((source, layout, rows))
+    let rows = rows_at(alloc, format, layout.columns(), rest)?;
+    Ok(Parts {
+        format,
+        source,
+        layout,
+        rows,
+    })
+}
+
+/// Whether the bytes spell a batch. It is `NotABatch` exactly where they spell none.
+pub(crate) fn check_spelled(alloc: Global, bytes: &[u8]) -> Result<(), PackedEnd>
+    ensures spelled { OnOk result (IsSpelled bytes.now) }
+    ensures refused { IfErr result (λ end. end ≡ NotABatch → (s : Spelled) → ¬ Spells bytes.now s) }
+{
+    ranged_bytes(bytes);
+    parts_at(alloc, bytes)?;
+    Ok(())
 }
 
 /// The batch that the bytes spell. What was read is known to be a batch, so its rows are not tested against the layout.
-pub(crate) fn read(alloc: Global, bytes: &[u8]) -> Result<Batch, AllocError>
+pub(crate) fn batch_in(alloc: Global, bytes: &[u8]) -> Result<Batch, AllocError>
     requires { IsSpelled bytes.now }
-    ensures { IfOk result (λ batch. content_of batch ≡ content_in bytes.now) }
+    ensures { IfOk result (λ batch. content_of batch ≡ (said_in bytes.now).content) }
 {
     match parts_at(alloc, bytes) {
-        Err(Unread::Memory) => Err(AllocError),
-        Err(Unread::NotABatch) => unreachable!(),
-        Ok((source, layout, rows)) => Ok(Batch::of_fitting(source, layout, rows)),
+        Err(PackedEnd::Memory) => Err(AllocError),
+        Err(PackedEnd::NotABatch) => unreachable!(),
+        Ok(parts) => Ok(Batch::of_fitting(parts.source, parts.layout, parts.rows)),
     }
 }

@@ -1,9 +1,16 @@
-//! How many bytes a batch takes, so that they can be written into memory that is taken at once. No promise rests on
-//! these numbers: one too low would cost time.
+//! How many bytes a batch takes. A sum past 2^64 - 1 stays there, which no row that fits a layout comes near.
+ghost use Rattle.std.specs.Prelude.{◌≡◌, ◌≤◌, ◌-◌, ◌^◌, min, length, IsTrue};
+ghost use Rattle.std.specs.List.{flat_map};
+ghost use Rattle.vast_value.specs.declared.layout.Layout.{Layout as LayoutOf};
+ghost use Rattle.vast_value.specs.Fit.{fits_columns};
+ghost use Rattle.vast_value.specs.ValueBytes.{value_bytes};
+ghost use Rattle.event_batch.specs.declared.format.Format.TheVariants.{Second};
+ghost use Rattle.event_batch.specs.Spelling.{element_bytes, cell_bytes, row_bytes};
 
 use crate::batch::Batch;
 use vast_value::{Cell, Column, Row, Value};
 
+/// The memory that a batch's bytes are written into at once. No promise rests on it: one too low would cost time.
 pub(crate) fn batch_size(batch: &Batch) -> usize {
     let heading = columns_size(batch.layout().columns()).saturating_add(
         batch.layout().path().len(),
@@ -26,20 +33,35 @@ fn columns_size(columns: &[Column]) -> usize {
 fn rows_size(rows: &[Row]) -> usize {
     let mut size: usize = 0;
     for row in rows {
-        size = size.saturating_add(cells_size(row.as_slice()));
+        size = size.saturating_add(row_size(row) as usize);
     }
     size
 }
 
-fn cells_size(cells: &[Cell]) -> usize {
-    let mut size: usize = 0;
+/// The number of bytes of the row's cells in format 2. A row that fits a layout has at most 2^57, so the sum for the
+/// rows of a batch can stay far below 2^63 where it is bounded as it grows.
+pub fn row_size(row: &Row) -> u64
+    ensures size { result ≡ min (length (row_bytes Second row.now)) (2 ^ 64 - 1) }
+    ensures exact { (layout : LayoutOf) → IsTrue (fits_columns layout.columns row.now) → result ≡ length (row_bytes Second row.now) }
+    ensures small { (layout : LayoutOf) → IsTrue (fits_columns layout.columns row.now) → result ≤ 2 ^ 57 }
+{
+    cells_size(row.as_slice())
+}
+
+fn cells_size(cells: &[Cell]) -> u64
+    ensures { result ≡ min (length (flat_map (cell_bytes Second) cells.now)) (2 ^ 64 - 1) }
+{
+    let mut size: u64 = 0;
     for cell in cells {
         size = size.saturating_add(cell_size(cell));
     }
     size
 }
 
-fn cell_size(cell: &Cell) -> usize {
+#[tactic(auto, using(crate::proofs::SizeLemmas::cell_length))]
+fn cell_size(cell: &Cell) -> u64
+    ensures { result ≡ min (length (cell_bytes Second cell.now)) (2 ^ 64 - 1) }
+{
     match cell {
         Cell::Unset => 1,
         Cell::One(value) => value_size(value).saturating_add(1),
@@ -47,28 +69,35 @@ fn cell_size(cell: &Cell) -> usize {
     }
 }
 
-fn elements_size(items: &[Option<Value>]) -> usize {
-    let mut size: usize = 0;
+fn elements_size(items: &[Option<Value>]) -> u64
+    ensures { result ≡ min (length (flat_map (element_bytes Second) items.now)) (2 ^ 64 - 1) }
+{
+    let mut size: u64 = 0;
     for item in items {
         size = size.saturating_add(element_size(item));
     }
     size
 }
 
-fn element_size(item: &Option<Value>) -> usize {
+fn element_size(item: &Option<Value>) -> u64
+    ensures { result ≡ min (length (element_bytes Second item.now)) (2 ^ 64 - 1) }
+{
     match item {
         None => 1,
         Some(value) => value_size(value).saturating_add(1),
     }
 }
 
-fn value_size(value: &Value) -> usize {
+#[tactic(auto, using(crate::proofs::SizeLemmas::value_length))]
+fn value_size(value: &Value) -> u64
+    ensures { result ≡ min (length (value_bytes value.now)) (2 ^ 64 - 1) }
+{
     match value {
         Value::Bool(_) => 1,
         Value::Count(_) | Value::Int(_) | Value::Time(_) | Value::Span(_) => 8,
-        Value::Text(text) | Value::Name(text) => text.as_slice().len().saturating_add(4),
+        Value::Text(text) | Value::Name(text) => (text.as_slice().len() as u64).saturating_add(4),
         Value::Addr(_) => 16,
         Value::Subnet(_) => 17,
-        Value::Port(_) => 2,
+        Value::Port { .. } => 3,
     }
 }

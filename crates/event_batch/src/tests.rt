@@ -1,27 +1,39 @@
-//! Worked bytes and the borders of a batch.
-ghost use Rattle.std.specs.Prelude.{◌≡◌, ◌≤◌, ◌<◌, ◌^◌, length};
+//! Worked bytes of batches.
+ghost use Rattle.std.specs.Prelude.{◌≡◌, ◌<◌};
 
 use super::*;
 use std::alloc::{AllocError, Global};
 use std::marker::Brand;
 use std::sync::ledger::{Blank, Ledger};
 use std::test::Fail;
-use vast_value::{Bytes, Cell, Cells, Column, Columns, Elem, Kind, Layout, Net, Row, Value};
+use vast_value::{
+    Bytes, Cell, Cells, Column, Columns, Elem, Kind, Layout, Net, Row, Transport, Value,
+};
 
-const ONE_COUNT: [u8; 31] = [
-    1, 1, 0, 0, 0, 1, 0, 0, 0, b'd', 1, 0, 1, 1, 0, 0, 0, b'n', 1, 0, 0, 0, 1, 7, 0, 0, 0, 0, 0, 0,
-    0,
+// Port 53 in a batch of format 1, and the same batch in format 2, where the transport is unknown.
+const FIRST_FORMAT: [u8; 25] = [
+    1, 1, 0, 0, 0, 1, 0, 0, 0, b'd', 1, 0, 9, 1, 0, 0, 0, b'p', 1, 0, 0, 0, 1, 53, 0,
 ];
 
+const SECOND_FORMAT: [u8; 26] = [
+    2, 1, 0, 0, 0, 1, 0, 0, 0, b'd', 1, 0, 9, 1, 0, 0, 0, b'p', 1, 0, 0, 0, 1, 53, 0, 0,
+];
+
+const THIRD_FORMAT: [u8; 25] = [
+    3, 1, 0, 0, 0, 1, 0, 0, 0, b'd', 1, 0, 9, 1, 0, 0, 0, b'p', 1, 0, 0, 0, 1, 53, 0,
+];
+
+const LONG: [u8; 300] = [b'x'; 300];
+
 const EACH_KIND_HEAD: [u8; 94] = [
-    1, 7, 0, 0, 0, 1, 0, 0, 0, b'p', 13, 0, // format, source, path, columns
+    2, 7, 0, 0, 0, 1, 0, 0, 0, b'p', 13, 0, // format, source, path, columns
     0, 1, 0, 0, 0, b'a', 1, 1, 0, 0, 0, b'b', 2, 1, 0, 0, 0, b'c', 3, 1, 0, 0, 0, b'd', //
     4, 1, 0, 0, 0, b'e', 5, 1, 0, 0, 0, b'f', 6, 1, 0, 0, 0, b'g', 7, 1, 0, 0, 0, b'h', //
     8, 1, 0, 0, 0, b'i', 8, 1, 0, 0, 0, b'j', 9, 1, 0, 0, 0, b'k', 21, 1, 0, 0, 0, b'l', //
     33, 1, 0, 0, 0, b'm', 2, 0, 0, 0, // a vector of counts, and two rows
 ];
 
-const EACH_KIND_ROWS: [u8; 137] = [
+const EACH_KIND_ROWS: [u8; 138] = [
     1, 1, // true
     1, 2, 1, 0, 0, 0, 0, 0, 0, // 258
     1, 254, 255, 255, 255, 255, 255, 255, 255, // -2
@@ -32,7 +44,7 @@ const EACH_KIND_ROWS: [u8; 137] = [
     1, 1, 0, 0, 10, 255, 255, 0, 0, 0, 0, 0, 0, 0, 0, 0, 0, // 10.0.0.1
     1, 0, 0, 0, 10, 255, 255, 0, 0, 0, 0, 0, 0, 0, 0, 0, 0, 104, // 10.0.0.0/8
     1, 0, 0, 0, 0, 0, 0, 0, 0, 0, 0, 0, 0, 184, 13, 1, 32, 32, // 2001:db8::/32
-    1, 187, 1, // 443
+    1, 187, 1, 1, // 443/tcp
     1, 2, 0, 0, 0, 0, 1, 1, 0, 0, 0, b'x', // an unset element, and a text
     1, 0, 0, 0, 0, // no elements
     0, 0, 0, 0, 0, 0, 0, 0, 0, 0, 0, 0, 0, // a row of unset cells
@@ -92,7 +104,10 @@ fn addresses(row: &mut Row) -> Result<(), AllocError> {
         base: 0x2001_0db8_0000_0000_0000_0000_0000_0000,
         bits: 32,
     })))?;
-    row.push(Cell::One(Value::Port(443)))
+    row.push(Cell::One(Value::Port {
+        number: 443,
+        over: Transport::Tcp,
+    }))
 }
 
 fn containers(alloc: Global, row: &mut Row) -> Result<(), AllocError> {
@@ -119,82 +134,82 @@ fn each_kind_rows(alloc: Global) -> Result<Rows, AllocError> {
     Ok(rows)
 }
 
-fn counts_layout(alloc: Global) -> Result<Layout, Fail> {
+fn long_batch(alloc: Global) -> Result<Batch, Fail> {
     let mut columns = Columns::new(alloc);
-    columns.push(column(alloc, b'n', Kind::One(Elem::Count))?)?;
-    match Layout::new(Bytes::copy(alloc, b"d")?, columns) {
-        Ok(layout) => Ok(layout),
-        Err(_) => Err("no layout".into()),
-    }
-}
-
-fn counts(alloc: Global, count: u32) -> Result<Rows, AllocError> {
+    columns.push(Column {
+        name: Bytes::copy(alloc, &LONG)?,
+        kind: Kind::One(Elem::Text),
+    })?;
+    let Ok(layout) = Layout::new(Bytes::copy(alloc, &LONG)?, columns) else {
+        return Err("no layout".into());
+    };
+    let mut row = Row::new(alloc);
+    row.push(Cell::One(Value::Text(Bytes::copy(alloc, &LONG)?)))?;
     let mut rows = Rows::new(alloc);
-    for _ in 0..count {
-        let mut row = Row::new(alloc);
-        row.push(Cell::One(Value::Count(7)))?;
-        rows.push(row)?;
-    }
-    Ok(rows)
+    rows.push(row)?;
+    Ok(Batch::new(1, layout, rows).ok_or("no batch")?)
 }
 
-fn unpacked<L: Ledger>(alloc: Global, packed: &Packed, blank: Blank) -> Result<Batch, AllocError>
+// The batch of the bytes, packed again.
+fn repacked<L: Ledger>(alloc: Global, packed: &Packed, blank: Blank) -> Result<Packed, AllocError>
     requires name { blank.name ≡ L.name }
     requires parts { blank.parts ≡ L.parts }
     requires some { 0 < L.parts }
 {
     let mut steps = Steps::<L>::new(blank);
-    unpack(alloc, packed, &mut steps)
-}
-
-#[test]
-fn one_row_of_one_count_has_31_bytes(rt: HostRuntime) -> Result<(), Fail> {
-    let alloc = rt.alloc();
-    let batch = Batch::new(1, counts_layout(alloc)?, counts(alloc, 1)?).ok_or("no batch")?;
-    let packed = encode(alloc, &batch)?.share()?;
-    assert_eq!(rt; packed.bytes(), ONE_COUNT.as_slice());
-    assert_eq!(rt; packed.source(), 1);
-    assert_eq!(rt; packed.rows(), 1);
-    let again = unpacked::<Brand>(alloc, &packed, Blank::new(1))?;
-    assert_eq!(rt; again.layout().path(), b"d".as_slice());
-    Ok(())
-}
-
-#[test]
-fn a_batch_has_1_to_4096_rows_that_fit(rt: HostRuntime) -> Result<(), Fail> {
-    let alloc = rt.alloc();
-    for (count, fits) in [(0, false), (1, true), (4096, true), (4097, false)] {
-        let batch = Batch::new(1, counts_layout(alloc)?, counts(alloc, count)?);
-        assert_eq!(rt; batch.is_some(), fits);
-    }
-    let mut rows = counts(alloc, 1)?;
-    rows.push(Row::new(alloc))?;
-    assert!(rt; Batch::new(1, counts_layout(alloc)?, rows).is_none());
-    Ok(())
+    let batch = unpack(alloc, packed, &mut steps)?;
+    encode(alloc, &batch)
 }
 
 #[test]
 fn each_kind_has_its_bytes(rt: HostRuntime) -> Result<(), Fail> {
     let alloc = rt.alloc();
     let batch = Batch::new(7, each_kind_layout(alloc)?, each_kind_rows(alloc)?).ok_or("no batch")?;
-    let packed = encode(alloc, &batch)?;
+    let packed = encode(alloc, &batch)?.share()?;
     let (head, rows) = packed
         .bytes()
         .split_at(EACH_KIND_HEAD.len().min(packed.bytes().len()));
     assert_eq!(rt; head, EACH_KIND_HEAD.as_slice());
     assert_eq!(rt; rows, EACH_KIND_ROWS.as_slice());
-    let again = unpacked::<Brand>(alloc, &packed, Blank::new(1))?;
-    assert_eq!(rt; encode(alloc, &again)?.bytes(), packed.bytes());
+    assert_eq!(rt;
+        repacked::<Brand>(alloc, &packed, Blank::new(1))?.bytes(),
+        packed.bytes()
+    );
     Ok(())
 }
 
 #[test]
-fn a_full_batch_is_unpacked_whole(rt: HostRuntime) -> Result<(), Fail> {
+fn texts_names_and_paths_of_300_bytes_are_unpacked(rt: HostRuntime) -> Result<(), Fail> {
     let alloc = rt.alloc();
-    let batch = Batch::new(1, counts_layout(alloc)?, counts(alloc, 4096)?).ok_or("no batch")?;
-    let packed = encode(alloc, &batch)?;
-    assert_eq!(rt; packed.bytes().len(), 22 + 9 * 4096);
-    let again = unpacked::<Brand>(alloc, &packed, Blank::new(1))?;
-    assert_eq!(rt; again.rows().len(), 4096);
+    let packed = encode(alloc, &long_batch(alloc)?)?;
+    let again = repacked::<Brand>(alloc, &packed, Blank::new(1))?;
+    assert_eq!(rt; again.bytes().len(), 925);
+    assert_eq!(rt; again.bytes(), packed.bytes());
+    Ok(())
+}
+
+#[test]
+fn format_1_is_read_and_written_as_format_2(rt: HostRuntime) -> Result<(), Fail> {
+    let alloc = rt.alloc();
+    let Ok(packed) = Packed::read(alloc, Bytes::copy(alloc, &FIRST_FORMAT)?) else {
+        return Err("not read".into());
+    };
+    assert_eq!(rt; packed.bytes(), FIRST_FORMAT.as_slice());
+    assert_eq!(rt; (packed.source(), packed.rows()), (1, 1));
+    assert_eq!(rt;
+        repacked::<Brand>(alloc, &packed, Blank::new(1))?.bytes(),
+        SECOND_FORMAT.as_slice()
+    );
+    Ok(())
+}
+
+#[test]
+fn bytes_of_another_format_come_back(rt: HostRuntime) -> Result<(), Fail> {
+    let alloc = rt.alloc();
+    let Err((bytes, end)) = Packed::read(alloc, Bytes::copy(alloc, &THIRD_FORMAT)?) else {
+        return Err("read".into());
+    };
+    assert_eq!(rt; end, PackedEnd::NotABatch);
+    assert_eq!(rt; bytes.as_slice(), THIRD_FORMAT.as_slice());
     Ok(())
 }

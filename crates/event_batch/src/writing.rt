@@ -2,27 +2,27 @@
 ghost use Rattle.std.specs.Prelude.{◌≡◌, ◌≤◌, ◌^◌, ◌∷◌, [], ◌++◌, length, map, IsTrue, IfOk, OnOk};
 ghost use Rattle.std.specs.Int.{w64, cast_unsigned};
 ghost use Rattle.std.specs.List.{flat_map, list_all};
-ghost use Rattle.vast_value.specs.declared.value.Value.TheVariants.{Bool as BoolOf};
+ghost use Rattle.vast_value.specs.declared.value.Value.TheVariants.{Bool as BoolOf, Port};
 ghost use Rattle.vast_value.specs.Fit.{is_small, is_bounded, is_bounded_element};
 ghost use Rattle.vast_value.specs.Headings.{field_of, heading_of};
 ghost use Rattle.event_batch.specs.Contents.{content_of};
-ghost use Rattle.event_batch.specs.Spelling.{number, text as text_bytes, elem_code, kind_code, value_bytes, element_bytes, cell_bytes, row_bytes, field_bytes, heading_bytes, spelling};
+ghost use Rattle.vast_value.specs.ValueBytes.{number, text as text_bytes, value_bytes};
+ghost use Rattle.event_batch.specs.declared.format.Format.TheVariants.{Second};
+ghost use Rattle.event_batch.specs.Spelling.{elem_code, kind_code, element_bytes, cell_bytes, row_bytes, field_bytes, heading_bytes, spelling};
 
 use crate::batch::Batch;
+use crate::format::Format;
 use crate::size::batch_size;
 use byteorder::{ByteOrder, LittleEndian};
 use std::alloc::{AllocError, Global};
-use vast_value::{Cell, Column, Elem, Kind, Layout, Net, Row, Value};
+use vast_value::{Cell, Column, Elem, Kind, Layout, Net, Row, Transport, Value};
 
-/// The number of the only format.
-pub(crate) const FORMAT: u8 = 1;
-
-/// The bytes of a batch, in memory that is taken at once.
+/// The bytes of a batch in format 2, in memory that is taken at once.
 pub(crate) fn spell(alloc: Global, batch: &Batch) -> Result<Vec<u8>, AllocError>
-    ensures { IfOk result (λ block. block.items ≡ spelling (content_of batch.now)) }
+    ensures { IfOk result (λ block. block.items ≡ spelling (record { format = Second; content = content_of batch.now })) }
 {
     let mut block = Vec::with_capacity(alloc, batch_size(batch))?;
-    block.push(FORMAT)?;
+    block.push(Format::Second.code())?;
     put_u32(&mut block, batch.source())?;
     put_heading(&mut block, batch.layout())?;
     put_u32(&mut block, batch.rows().len() as u32)?;
@@ -84,7 +84,7 @@ fn elem_code(elem: Elem) -> u8
 
 fn put_rows(out: &mut Vec<u8>, rows: &[Row]) -> Result<(), AllocError>
     requires { IsTrue (list_all (list_all is_small) rows.now) }
-    ensures { OnOk result (out.new.items ≡ out.old.items ++ flat_map row_bytes rows.now) }
+    ensures { OnOk result (out.new.items ≡ out.old.items ++ flat_map (row_bytes Second) rows.now) }
 {
     for row in rows {
         put_cells(out, row.as_slice())?;
@@ -94,7 +94,7 @@ fn put_rows(out: &mut Vec<u8>, rows: &[Row]) -> Result<(), AllocError>
 
 fn put_cells(out: &mut Vec<u8>, cells: &[Cell]) -> Result<(), AllocError>
     requires { IsTrue (list_all is_small cells.now) }
-    ensures { OnOk result (out.new.items ≡ out.old.items ++ row_bytes cells.now) }
+    ensures { OnOk result (out.new.items ≡ out.old.items ++ row_bytes Second cells.now) }
 {
     for cell in cells {
         put_cell(out, cell)?;
@@ -104,7 +104,7 @@ fn put_cells(out: &mut Vec<u8>, cells: &[Cell]) -> Result<(), AllocError>
 
 fn put_cell(out: &mut Vec<u8>, cell: &Cell) -> Result<(), AllocError>
     requires { IsTrue (is_small cell.now) }
-    ensures { OnOk result (out.new.items ≡ out.old.items ++ cell_bytes cell.now) }
+    ensures { OnOk result (out.new.items ≡ out.old.items ++ cell_bytes Second cell.now) }
 {
     match cell {
         Cell::Unset => {
@@ -125,7 +125,7 @@ fn put_cell(out: &mut Vec<u8>, cell: &Cell) -> Result<(), AllocError>
 
 fn put_elements(out: &mut Vec<u8>, items: &[Option<Value>]) -> Result<(), AllocError>
     requires { IsTrue (list_all is_bounded_element items.now) }
-    ensures { OnOk result (out.new.items ≡ out.old.items ++ flat_map element_bytes items.now) }
+    ensures { OnOk result (out.new.items ≡ out.old.items ++ flat_map (element_bytes Second) items.now) }
 {
     for item in items {
         put_element(out, item)?;
@@ -135,7 +135,7 @@ fn put_elements(out: &mut Vec<u8>, items: &[Option<Value>]) -> Result<(), AllocE
 
 fn put_element(out: &mut Vec<u8>, item: &Option<Value>) -> Result<(), AllocError>
     requires { IsTrue (is_bounded_element item.now) }
-    ensures { OnOk result (out.new.items ≡ out.old.items ++ element_bytes item.now) }
+    ensures { OnOk result (out.new.items ≡ out.old.items ++ element_bytes Second item.now) }
 {
     match item {
         None => {
@@ -163,7 +163,7 @@ fn put_value(out: &mut Vec<u8>, value: &Value) -> Result<(), AllocError>
         Value::Name(text) => put_text(out, text.as_slice()),
         Value::Addr(addr) => put_u128(out, *addr),
         Value::Subnet(net) => put_net(out, net),
-        Value::Port(port) => put_u16(out, *port),
+        Value::Port { number, over } => put_port(out, *number, *over),
     }
 }
 
@@ -182,6 +182,14 @@ fn put_net(out: &mut Vec<u8>, net: &Net) -> Result<(), AllocError>
     Ok(())
 }
 
+fn put_port(out: &mut Vec<u8>, port: u16, over: Transport) -> Result<(), AllocError>
+    ensures { OnOk result (out.new.items ≡ out.old.items ++ value_bytes (Port port over)) }
+{
+    put_u16(out, port)?;
+    out.push(over.code())?;
+    Ok(())
+}
+
 fn put_text(out: &mut Vec<u8>, text: &[u8]) -> Result<(), AllocError>
     requires { length text.now ≤ 2 ^ 24 }
     ensures { OnOk result (out.new.items ≡ out.old.items ++ text_bytes text.now) }
@@ -190,7 +198,7 @@ fn put_text(out: &mut Vec<u8>, text: &[u8]) -> Result<(), AllocError>
     out.extend_from_slice(text)
 }
 
-#[tactic(auto, unfolding(crate::specs::Spelling::number))]
+#[tactic(auto, unfolding(vast_value::specs::ValueBytes::number))]
 fn put_u16(out: &mut Vec<u8>, n: u16) -> Result<(), AllocError>
     ensures { OnOk result (out.new.items ≡ out.old.items ++ number 2 n) }
 {
@@ -199,7 +207,7 @@ fn put_u16(out: &mut Vec<u8>, n: u16) -> Result<(), AllocError>
     out.extend_from_slice(&bytes)
 }
 
-#[tactic(auto, unfolding(crate::specs::Spelling::number))]
+#[tactic(auto, unfolding(vast_value::specs::ValueBytes::number))]
 fn put_u32(out: &mut Vec<u8>, n: u32) -> Result<(), AllocError>
     ensures { OnOk result (out.new.items ≡ out.old.items ++ number 4 n) }
 {
@@ -208,7 +216,7 @@ fn put_u32(out: &mut Vec<u8>, n: u32) -> Result<(), AllocError>
     out.extend_from_slice(&bytes)
 }
 
-#[tactic(auto, unfolding(crate::specs::Spelling::number))]
+#[tactic(auto, unfolding(vast_value::specs::ValueBytes::number))]
 fn put_u64(out: &mut Vec<u8>, n: u64) -> Result<(), AllocError>
     ensures { OnOk result (out.new.items ≡ out.old.items ++ number 8 n) }
 {
@@ -223,7 +231,7 @@ fn put_i64(out: &mut Vec<u8>, n: i64) -> Result<(), AllocError>
     put_u64(out, n.cast_unsigned())
 }
 
-#[tactic(auto, unfolding(crate::specs::Spelling::number))]
+#[tactic(auto, unfolding(vast_value::specs::ValueBytes::number))]
 fn put_u128(out: &mut Vec<u8>, n: u128) -> Result<(), AllocError>
     ensures { OnOk result (out.new.items ≡ out.old.items ++ number 16 n) }
 {

@@ -6,10 +6,10 @@ use Rattle.event_batch.proofs.reading.elements_at.Goals as goal
 pub returns-in_err-item : goal.returns-in_err-item
 returns-in_err-item c =
     let p = err_from_is_err_and c.from_residual.result c.from_residual.ensures.1 in
-    rw (p.1, p.2) (ends (element_at c.args.elem) c.in_err-item.field-0.0 c.loop.items c.args.count c.loop.counter c.loop.rest.now (many_at (element_at c.args.elem) c.args.count c.args.bytes.now) c.loop-test.true c.in_err-item.ensures c.loop.invariant)
+    rw (p.1, p.2) (ends (element_at c.args.format c.args.elem) c.in_err-item.field-0.0 c.loop.items c.args.count c.loop.counter c.loop.rest.now (many_at (element_at c.args.format c.args.elem) c.args.count c.args.bytes.now) c.loop-test.true c.in_err-item.ensures c.loop.invariant)
 
 pub loop-preserved : goal.loop-preserved
-loop-preserved c = rw c.in_ok-push.ensures.ok (goes_on (element_at c.args.elem) c.loop.items c.args.count c.loop.counter c.loop.rest.now c.in_ok-item.item c.in_ok-item.after.now (many_at (element_at c.args.elem) c.args.count c.args.bytes.now) c.loop-test.true c.in_ok-item.ensures c.loop.invariant)
+loop-preserved c = rw c.in_ok-push.ensures.ok (goes_on (element_at c.args.format c.args.elem) c.loop.items c.args.count c.loop.counter c.loop.rest.now c.in_ok-item.item c.in_ok-item.after.now (many_at (element_at c.args.format c.args.elem) c.args.count c.args.bytes.now) c.loop-test.true c.in_ok-item.ensures c.loop.invariant)
 
 pub returns : goal.returns
-returns c = is_done (element_at c.args.elem) c.loop.items c.args.count c.loop.counter c.loop.rest.now (many_at (element_at c.args.elem) c.args.count c.args.bytes.now) c.loop-test.false c.loop.invariant
+returns c = is_done (element_at c.args.format c.args.elem) c.loop.items c.args.count c.loop.counter c.loop.rest.now (many_at (element_at c.args.format c.args.elem) c.args.count c.args.bytes.now) c.loop-test.false c.loop.invariant

@@ -1,5 +1,5 @@
 use Rattle.std.proofs.Common.{sym}
-use Rattle.event_batch.proofs.FieldLemmas.{net_of_itself}
+use Rattle.vast_value.proofs.NetLemmas.{net_of_itself}
 use Rattle.event_batch.proofs.reading.net_of.Goals as goal
 
 pub returns : goal.returns

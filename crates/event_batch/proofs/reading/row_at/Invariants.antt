@@ -5,4 +5,4 @@ use Rattle.event_batch.proofs.LoopLemmas.{with_front}
 use Rattle.event_batch.proofs.reading.row_at.Given as goal
 
 abbrev pub invariant-loop-column : goal.invariant-loop-column
-invariant-loop-column l = with_front l.row (row_at (map field_of (drop l.column-index l.columns)) l.rest) ≡ row_at (map field_of l.columns) l.bytes
+invariant-loop-column l = with_front l.row (row_at l.format (map field_of (drop l.column-index l.columns)) l.rest) ≡ row_at l.format (map field_of l.columns) l.bytes

@@ -1,7 +1,0 @@
-use Rattle.event_batch.proofs.PackingLemmas.{rows_read}
-use Rattle.event_batch.proofs.reading.read.Goals as goal
-
-pub of_fitting-requires : goal.of_fitting-requires
-of_fitting-requires c =
-    let parts = rows_read c.args.bytes.now c.in-Ok.source c.in-Ok.layout c.in-Ok.rows c.requires c.in-Ok.ensures in
-    record { sized = parts.0; fitting = parts.1 }
