@@ -75,9 +75,6 @@ refused Memory bytes h e = absurd cc
 pub read_spelled : (bytes : List ℕ) (s : Spelled) → list_all is_byte bytes ≡ true → content_at bytes ≡ Some s → IsSpelled bytes
 read_spelled bytes s h e = is_spelled bytes s (read_is_spelled bytes s h e)
 
-pub own_spelling : (bytes : List ℕ) → IsSpelled bytes → Spells bytes (said_in bytes)
-own_spelling bytes p = record { spelled = p.spelled; spellable = p.spellable }
-
 -- what was read of such bytes is a batch
 pub rows_read : (bytes : List ℕ) (f : Format) (source : ℕ) (l : Layout) (rows : List (List Cell)) → IsSpelled bytes → content_at bytes ≡ Some (record { format = f; content = record { source = source; heading = heading_of l; rows = rows } })
     → (is_batch_size (length rows) ≡ true) × (rows_fit l rows ≡ true)

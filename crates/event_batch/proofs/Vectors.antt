@@ -38,6 +38,10 @@ first_format : content_at first_bytes ≡ Some (record { format = First; content
 unfolding byte_at number_at signed_at text_at bool_at net_at port_at value_at element_at many_at container_at set_cell_at cell_at row_at elem_of_code kind_of_code field_at heading_at rows_at format_coded content_at net_of
 first_format = refl
 
+first_spelling : spelling (record { format = First; content = ports }) ≡ first_bytes
+unfolding number
+first_spelling = refl
+
 -- and its transport is written as unknown in format 2
 second_format : spelling (record { format = Second; content = ports }) ≡ (2 ∷ 1 ∷ 0 ∷ 0 ∷ 0 ∷ 1 ∷ 0 ∷ 0 ∷ 0 ∷ 100 ∷ 1 ∷ 0 ∷ 9 ∷ 1 ∷ 0 ∷ 0 ∷ 0 ∷ 112 ∷ 1 ∷ 0 ∷ 0 ∷ 0 ∷ 1 ∷ 53 ∷ 0 ∷ 0 ∷ [])
 unfolding number
