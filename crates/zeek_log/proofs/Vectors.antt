@@ -19,7 +19,7 @@ use Rattle.zeek_log.specs.declared.fault.ZeekFault.TheVariants.{NoHead, BadSepar
 use Rattle.zeek_log.specs.declared.step.ZeekEnd.TheVariants.{Done, Fault, ReadFault, TooLong}
 use Rattle.zeek_log.specs.Going.{lines_left}
 use Rattle.zeek_log.specs.Heads.{Told, opened, opening, separator_of, name_fault, names_read, kind_read, kinds_read}
-use Rattle.zeek_log.specs.Laws.{written_log, is_plain, has_data_line}
+use Rattle.zeek_log.specs.Laws.{IsWritable, written_log, is_plain, has_data_line}
 use Rattle.zeek_log.specs.Lines.{is_too_long, lines_of, pieces_of}
 use Rattle.zeek_log.specs.Reader.{State, Reads, Last, Ended, Reading, EndsAs, Follows, MayFollow, IsMetAtLast, CountsOf, come_from, heading_told}
 use Rattle.zeek_log.specs.Steps.{Steps, steps_of, steps_of_source, taken_steps}
@@ -288,6 +288,11 @@ three_columns = record { path = codes "d"; fields = column (codes "n") (kind.One
 log_written : written_log three_columns ((One (Count 7) ∷ (Unset ∷ (Unset ∷ []))) ∷ ((Unset ∷ (Many [] ∷ (Unset ∷ []))) ∷ [])) ≡ text (codes "#separator \\x09$#path^d$#fields^n^s^v$#types^count^set[int]^vector[interval]$7^-^-$-^(empty)^-$")
 unfolding cell_text value_text digits
 log_written = refl
+
+-- a path may hold a tab
+writable : IsWritable (heading (text (codes "d^e"))) ((One (Count 7) ∷ []) ∷ ((Unset ∷ []) ∷ []))
+unfolding cell_text value_text digits
+writable = record { sound = refl; path = refl; names = refl; fits = refl; are_data = refl; short = refl }
 
 -- an empty text alone has a line, the set of one has none, and a text may begin with `#`
 data_lines : map has_data_line ((One (Text []) ∷ []) ∷ ((Many (Some (Text []) ∷ []) ∷ []) ∷ ((One (Text (codes "#")) ∷ []) ∷ ((Unset ∷ (One (Text (codes "#")) ∷ [])) ∷ [])))) ≡ true ∷ (false ∷ (false ∷ (true ∷ [])))
