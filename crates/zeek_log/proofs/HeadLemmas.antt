@@ -16,15 +16,13 @@ use Rattle.vast_value.proofs.HeadingLemmas.{fits_fields-map, heading_fault-map}
 use Rattle.zeek_log.specs.declared.fault.At.{At}
 use Rattle.zeek_log.specs.declared.fault.ZeekFault.TheVariants.{FieldsTypes}
 use Rattle.zeek_log.specs.Heads.{name_fault, names_fault, kind_read, kinds_read}
+use Rattle.zeek_log.specs.Laws.{name_of}
 use Rattle.zeek_log.specs.Lines.{pieces_of}
 use Rattle.zeek_log.specs.Naming.{are_named, is_short}
 use Rattle.zeek_log.specs.Table.{fields_with, fields_made, fields_read}
 use Rattle.zeek_log.proofs.CutLemmas.{pieces_some}
 
-abbrev name_of : Field → List ℕ
-name_of f = f.name
-
-some_none : {X : Type 0} {x : X} {o : Option X} → o ≡ Some x → o ≡ None → ⊥
+pub some_none : {X : Type 0} {x : X} {o : Option X} → o ≡ Some x → o ≡ None → ⊥
 some_none p q = cc
 
 err_ok : {X : Type 0} {x : X} {at : At} {r : Result X At} → r ≡ Err at → r ≡ Ok x → ⊥
@@ -33,11 +31,11 @@ err_ok p q = cc
 ok_same : {X : Type 0} {x y : X} {r : Result X At} → r ≡ Ok x → r ≡ Ok y → x ≡ y
 ok_same p q = cc
 
-both_none : (a b : Option At) → option_or a b ≡ None → (a ≡ None) × (b ≡ None)
+pub both_none : {X : Type 0} (a b : Option X) → option_or a b ≡ None → (a ≡ None) × (b ≡ None)
 both_none None b e = (refl, e)
 both_none (Some x) b e = absurd (some_none refl e)
 
-among-map : (name : List ℕ) (before : List Field) → list_any (λ g. bytes_eq g.name name) before ≡ list_any (λ other. bytes_eq other name) (map name_of before)
+pub among-map : (name : List ℕ) (before : List Field) → list_any (λ g. bytes_eq g.name name) before ≡ list_any (λ other. bytes_eq other name) (map name_of before)
 among-map name [] = refl
 among-map name (f ∷ fs) = grind (arith, among-map name fs)
 
@@ -50,7 +48,7 @@ field_sound n before f fine =
     ap (bad_name n f.name) (among-map f.name before)
     ∙ nothing_mapped _ (bad_name n f.name (list_any (λ other. bytes_eq other f.name) (map name_of before))) fine
 
-map_push : (before : List Field) (f : Field) → map name_of (before ++ f ∷ []) ≡ map name_of before ++ f.name ∷ []
+pub map_push : (before : List Field) (f : Field) → map name_of (before ++ f ∷ []) ≡ map name_of before ++ f.name ∷ []
 map_push [] f = refl
 map_push (b ∷ before) f = grind (arith, map_push before f)
 

@@ -8,3 +8,4 @@ pub mod NearLemmas
 pub mod PieceLemmas
 pub mod RowLawLemmas
 mod Vectors
+pub mod WrittenLemmas

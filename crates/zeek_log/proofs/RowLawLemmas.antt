@@ -1,5 +1,6 @@
 -- A line of the cells of a row, as they are written, is read as this row.
-use Rattle.std.proofs.Common.{◌≡◌, ℕ, ◌+◌, ◌==◌, ◌&&◌, true, false, List, [], ◌∷◌, ◌++◌, Option, None, Some, Ok, length, map, nat_le, nat_lt, refl, ap, ◌∙◌, arith}
+use Rattle.std.proofs.Common.{◌≡◌, ℕ, ◌+◌, ◌==◌, Bool, ◌&&◌, true, false, not, List, [], ◌∷◌, Option, None, Some, Ok, length, map, nat_le, nat_lt, refl, ap, ◌∙◌, arith}
+use Rattle.std.specs.Cmp.Derive.{both_true}
 use Rattle.std.specs.List.{list_all, join_with_byte}
 use Rattle.std.proofs.lemmas.Bool.{and_parts, leb-true, ne_eqb, eq-eqb}
 use Rattle.std.proofs.lemmas.List.{length-map}
@@ -13,8 +14,10 @@ use Rattle.vast_value.specs.Layouts.{is_empty}
 use Rattle.value_text.specs.declared.Marks.{Marks}
 use Rattle.value_text.specs.Writing.{AreUsual, cell_text, is_printable}
 use Rattle.value_writing.proofs.WritingCells.{cell_again, cell_printable}
+use Rattle.zeek_log.specs.Laws.{lacks, is_plain}
 use Rattle.zeek_log.specs.Lines.{pieces_of}
 use Rattle.zeek_log.specs.Table.{cells_read, row_read, then_cell}
+use Rattle.zeek_log.proofs.LawLemmas.{cut_joined}
 
 -- a cell that fits is in range
 ranged_items : (items : List (Option Value)) → list_all is_bounded_element items ≡ true → list_all is_ranged_element items ≡ true
@@ -30,35 +33,37 @@ ranged Unset e = refl
 ranged (One v) e = (and_parts (is_sized v) (is_ranged v) e).1
 ranged (Many items) e = ranged_items items (and_parts (nat_le (length items) most_parts) (list_all is_bounded_element items) e).1
 
--- no printable byte is a tab
-no_tab : (b : ℕ) → is_printable b ≡ true → (b == 9) ≡ false
-no_tab b e = let low = leb-true 32 b (and_parts (nat_le 32 b) (nat_lt b 127) e).0 in ne_eqb b 9 (λ same. absurd (omega (arith, same, low)))
+-- no printable byte is a tab or a newline
+no_blank : (b : ℕ) → is_printable b ≡ true → (not (b == 9) ≡ true) × (not (b == 10) ≡ true)
+no_blank b e =
+    let low = leb-true 32 b (and_parts (nat_le 32 b) (nat_lt b 127) e).0 in
+    (ap not (ne_eqb b 9 (λ same. absurd (omega (arith, same, low)))), ap not (ne_eqb b 10 (λ same. absurd (omega (arith, same, low)))))
 
--- a text without a tab, and others behind a tab, or none
-split_piece : (x rest : List ℕ) → list_all is_printable x ≡ true → pieces_of 9 (x ++ (9 ∷ rest)) ≡ x ∷ pieces_of 9 rest
-split_piece [] rest e = refl
-split_piece (b ∷ x) rest e =
-    let parts = and_parts (is_printable b) (list_all is_printable x) e in
-    let no = no_tab b parts.0 in
-    let behind = split_piece x rest parts.1 in
-    rw (no, behind) refl
+pub all_of : {X : Type 0} (p q : X → Bool) → ((x : X) → p x ≡ true → q x ≡ true) → (xs : List X) → list_all p xs ≡ true → list_all q xs ≡ true
+all_of p q then [] e = refl
+all_of p q then (x ∷ xs) e =
+    let parts = and_parts (p x) (list_all p xs) e in
+    both_true {s = q x} {t = list_all q xs} (then x parts.0) (all_of p q then xs parts.1)
 
-split_last : (x : List ℕ) → list_all is_printable x ≡ true → pieces_of 9 x ≡ x ∷ []
-split_last [] e = refl
-split_last (b ∷ x) e =
-    let parts = and_parts (is_printable b) (list_all is_printable x) e in
-    let no = no_tab b parts.0 in
-    let behind = split_last x parts.1 in
-    rw (no, behind) refl
+pub plain_lacks : (x : List ℕ) → is_plain x ≡ true → (lacks 9 x ≡ true) × (lacks 10 x ≡ true)
+plain_lacks x e = and_parts (lacks 9 x) (lacks 10 x) e
 
--- the cells of a row, joined by tabs, are cut again
-cut_again : (row : List Cell) → is_empty row ≡ false → list_all is_ranged_cell row ≡ true → pieces_of 9 (join_with_byte 9 (map cell_text row)) ≡ map cell_text row
-cut_again [] some e = cc
-cut_again (x ∷ []) some e = split_last (cell_text x) (cell_printable x (and_parts (is_ranged_cell x) true e).0)
-cut_again (x ∷ (y ∷ row)) some e =
-    let parts = and_parts (is_ranged_cell x) (list_all is_ranged_cell (y ∷ row)) e in
-    split_piece (cell_text x) (join_with_byte 9 (map cell_text (y ∷ row))) (cell_printable x parts.0)
-    ∙ ap (λ (xs : List (List ℕ)). cell_text x ∷ xs) (cut_again (y ∷ row) refl parts.1)
+printable_plain : (x : List ℕ) → list_all is_printable x ≡ true → is_plain x ≡ true
+printable_plain x e =
+    both_true {s = lacks 9 x} {t = lacks 10 x}
+    (all_of is_printable (λ b. not (b == 9)) (λ b p. (no_blank b p).0) x e)
+    (all_of is_printable (λ b. not (b == 10)) (λ b p. (no_blank b p).1) x e)
+
+-- the texts of cells hold neither
+plain_cells : (row : List Cell) → list_all is_ranged_cell row ≡ true → list_all is_plain (map cell_text row) ≡ true
+plain_cells [] e = refl
+plain_cells (x ∷ row) e =
+    let parts = and_parts (is_ranged_cell x) (list_all is_ranged_cell row) e in
+    both_true {s = is_plain (cell_text x)} {t = list_all is_plain (map cell_text row)} (printable_plain (cell_text x) (cell_printable x parts.0)) (plain_cells row parts.1)
+
+pub some_mapped : {X Y : Type 0} (f : X → Y) (xs : List X) → is_empty xs ≡ false → is_empty (map f xs) ≡ false
+some_mapped f [] some = cc
+some_mapped f (x ∷ xs) some = refl
 
 all_ranged : (fields : List Field) (row : List Cell) → fits_fields fields row ≡ true → list_all is_ranged_cell row ≡ true
 all_ranged [] [] fits = refl
@@ -85,8 +90,16 @@ cells_again marks n (f ∷ fields) (x ∷ row) usual fits =
     ap (λ (o : Option Cell). then_cell n o (cells_read marks (n + 1) fields (map cell_text row))) (cell_again marks f.kind x usual here.0 (ranged x here.1))
     ∙ ap (then_cell n (Some x)) (cells_again marks (n + 1) fields row usual parts.1)
 
+-- nor do those of a row that fits
+pub plain_row : (fields : List Field) (row : List Cell) → fits_fields fields row ≡ true → list_all is_plain (map cell_text row) ≡ true
+plain_row fields row fits = plain_cells row (all_ranged fields row fits)
+
+pub tabless : (xs : List (List ℕ)) → list_all is_plain xs ≡ true → list_all (lacks 9) xs ≡ true
+tabless xs e = all_of is_plain (lacks 9) (λ x p. (plain_lacks x p).0) xs e
+
 pub row_again : (marks : Marks) (fields : List Field) (row : List Cell) → AreUsual marks → fits_fields fields row ≡ true → is_empty row ≡ false
     → row_read marks fields (pieces_of 9 (join_with_byte 9 (map cell_text row))) ≡ Ok row
 row_again marks fields row usual fits some =
     let many : (length (map cell_text row) == length fields) ≡ true = eq-eqb (length (map cell_text row)) (length fields) (length-map row cell_text ∙ as_many fields row fits) in
-    ap (row_read marks fields) (cut_again row some (all_ranged fields row fits)) ∙ rw many (cells_again marks 1 fields row usual fits)
+    let cut : pieces_of 9 (join_with_byte 9 (map cell_text row)) ≡ map cell_text row = cut_joined 9 (map cell_text row) (some_mapped cell_text row some) (tabless (map cell_text row) (plain_row fields row fits)) in
+    ap (row_read marks fields) cut ∙ rw many (cells_again marks 1 fields row usual fits)

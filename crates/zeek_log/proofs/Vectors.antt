@@ -1,21 +1,25 @@
 -- What the definitions give at chosen places. In a text `^` stands for a tab and `$` for a newline.
 use Rattle.std.proofs.Common.{◌≡◌, ℕ, ◌==◌, true, false, if◌then◌else◌, List, [], ◌∷◌, Option, None, Some, Ok, Err, map, length, codes, nat_lt, refl, lit≤, ap, arith}
+use Rattle.std.specs.Fmt.{digits}
 use Rattle.std.proofs.lemmas.Bool.{lt-ltb, le-leb}
 use Rattle.source_block.specs.Holding.{most_bytes}
 use Rattle.source_block.specs.declared.stop.Stop.TheVariants.{AtEnd, Failed, AtBound}
 use Rattle.vast_value.specs.declared.kind.Elem.TheVariants as elem
 use Rattle.vast_value.specs.declared.kind.Kind.TheVariants as kind
-use Rattle.vast_value.specs.declared.cell.Cell.TheVariants.{One, Unset}
-use Rattle.vast_value.specs.declared.value.Value.TheVariants.{Count}
-use Rattle.vast_value.specs.Headings.{Heading}
+use Rattle.vast_value.specs.declared.cell.Cell.TheVariants.{One, Many, Unset}
+use Rattle.vast_value.specs.declared.value.Value.TheVariants.{Count, Text}
+use Rattle.vast_value.specs.declared.kind.Kind.{Kind}
+use Rattle.vast_value.specs.Headings.{Field, Heading}
 use Rattle.value_text.specs.declared.Marks.{Marks}
 use Rattle.value_text.specs.Reading.{cell_read, value_read}
+use Rattle.value_text.specs.Writing.{cell_text, value_text}
 use Rattle.zeek_log.specs.declared.fault.At.{At}
 use Rattle.zeek_log.specs.declared.fault.ZeekFault.{ZeekFault}
 use Rattle.zeek_log.specs.declared.fault.ZeekFault.TheVariants.{NoHead, BadSeparator, FieldsTypes, TooManyColumns, EmptyName, SameName, UnknownKind, Floating, CellCount, BadCell, LineTooLong}
 use Rattle.zeek_log.specs.declared.step.ZeekEnd.TheVariants.{Done, Fault, ReadFault, TooLong}
 use Rattle.zeek_log.specs.Going.{lines_left}
 use Rattle.zeek_log.specs.Heads.{Told, opened, opening, separator_of, name_fault, names_read, kind_read, kinds_read}
+use Rattle.zeek_log.specs.Laws.{IsWritable, written_log, is_plain, has_data_line}
 use Rattle.zeek_log.specs.Lines.{is_too_long, lines_of, pieces_of}
 use Rattle.zeek_log.specs.Reader.{State, Reads, Last, Ended, Reading, EndsAs, Follows, MayFollow, IsMetAtLast, CountsOf, come_from, heading_told}
 use Rattle.zeek_log.specs.Steps.{Steps, steps_of, steps_of_source, taken_steps}
@@ -272,6 +276,31 @@ headings = refl
 
 lines_to_come : lines_left (Reads told 5) ≡ 68719476733
 lines_to_come = refl
+
+-- Written logs
+
+abbrev column : List ℕ → Kind → Field
+column name kind = record { name = name; kind = kind }
+
+abbrev three_columns : Heading
+three_columns = record { path = codes "d"; fields = column (codes "n") (kind.One elem.Count) ∷ (column (codes "s") (kind.SetOf elem.Int) ∷ (column (codes "v") (kind.VecOf elem.Span) ∷ [])) }
+
+log_written : written_log three_columns ((One (Count 7) ∷ (Unset ∷ (Unset ∷ []))) ∷ ((Unset ∷ (Many [] ∷ (Unset ∷ []))) ∷ [])) ≡ text (codes "#separator \\x09$#path^d$#fields^n^s^v$#types^count^set[int]^vector[interval]$7^-^-$-^(empty)^-$")
+unfolding cell_text value_text digits
+log_written = refl
+
+-- a path may hold a tab
+writable : IsWritable (heading (text (codes "d^e"))) ((One (Count 7) ∷ []) ∷ ((Unset ∷ []) ∷ []))
+unfolding cell_text value_text digits
+writable = record { sound = refl; path = refl; names = refl; fits = refl; are_data = refl; short = refl }
+
+-- an empty text alone has a line, the set of one has none, and a text may begin with `#`
+data_lines : map has_data_line ((One (Text []) ∷ []) ∷ ((Many (Some (Text []) ∷ []) ∷ []) ∷ ((One (Text (codes "#")) ∷ []) ∷ ((Unset ∷ (One (Text (codes "#")) ∷ [])) ∷ [])))) ≡ true ∷ (false ∷ (false ∷ (true ∷ [])))
+unfolding cell_text value_text
+data_lines = refl
+
+plain_names : map is_plain (text (codes "a^") ∷ (text (codes "$a") ∷ (codes "a b" ∷ []))) ≡ false ∷ (false ∷ (true ∷ []))
+plain_names = refl
 
 -- What a reader answers
 

@@ -3,6 +3,7 @@ pub mod Cuts
 pub mod Finding
 pub mod Going
 pub mod Heads
+pub mod Laws
 pub mod Lines
 pub mod Naming
 pub mod Reader

@@ -24,6 +24,6 @@ mod tests;
 mod types;
 
 pub use fault::ZeekFault;
-pub use laws::{a_written_row_is_read, cells_are_a_line, lines_are_a_text};
+pub use laws::{a_written_log_is_read, a_written_row_is_read, cells_are_a_line, lines_are_a_text};
 pub use reader::ZeekReader;
 pub use step::{Step, ZeekEnd};
