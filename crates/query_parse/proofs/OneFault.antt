@@ -1,17 +1,16 @@
 -- A text has at most one fault, and none where its tokens are a query. What stops a reader is the first token that makes
 -- what was read no query's beginning, or a clashing test whole.
-use Rattle.std.proofs.Common.{◌≡◌, ◌≢◌, ℕ, ◌+◌, ◌≤◌, ◌<◌, Bool, true, false, if◌then◌else◌, List, [], ◌∷◌, ◌++◌, Option, None, Some, Result, Ok, Err, length, map, IsTrue, IsFalse, refl, ap, sym, ◌∙◌, subst, append_assoc, length-append, arith, ◌⊎◌, inl, inr, nat_lt}
+use Rattle.std.proofs.Common.{◌≡◌, ℕ, ◌≤◌, ◌<◌, Bool, true, false, if◌then◌else◌, List, [], ◌∷◌, ◌++◌, Option, None, Some, Result, Ok, Err, length, refl, ap, sym, ◌∙◌, subst, append_assoc, length-append, arith, ◌⊎◌, inl, inr, nat_lt}
 use Rattle.std.specs.Option.{option_and_then}
-use Rattle.std.proofs.lemmas.List.{append-nil, map-append}
-use Rattle.std.proofs.lemmas.Bool.{cases_Bool, lt-ltb, le-ltb, ltb-true, ltb-false}
+use Rattle.std.proofs.lemmas.List.{append-nil}
+use Rattle.std.proofs.lemmas.Bool.{lt-ltb, le-ltb, ltb-true, ltb-false}
 use Rattle.query_meaning.specs.declared.expr.Expr.{Expr}
-use Rattle.query_meaning.specs.declared.expr.Test.{Test}
 use Rattle.query_parse.specs.declared.fault.QueryFault.{QueryFault}
 use Rattle.query_parse.specs.declared.fault.QueryWhat.{QueryWhat}
 use Rattle.query_parse.specs.declared.fault.QueryWhat.TheVariants.{Unexpected, BadLiteral, KindClash, TooDeep, TooLong}
 use Rattle.query_parse.specs.declared.lexeme.Lexeme.{Lexeme}
 use Rattle.query_parse.specs.declared.lexeme.Lexeme.TheVariants as lexeme
-use Rattle.query_parse.specs.Faults.{Begins, Continues, Clean, kinds_of, IsOpening, Stops, IsUnexpected, IsBad, IsTooDeep, literal_at, Clashes, FaultIn, most_bytes, IsFault}
+use Rattle.query_parse.specs.Faults.{Begins, Clean, kinds_of, IsOpening, Stops, IsUnexpected, IsBad, IsTooDeep, literal_at, Clashes, FaultIn, most_bytes, IsFault}
 use Rattle.query_parse.specs.Grammar.{most_open, Reads}
 use Rattle.query_parse.specs.Parsing.{run, start, parsed}
 use Rattle.query_parse.specs.Tokens.{Token, tokens_of, lexemes_of}

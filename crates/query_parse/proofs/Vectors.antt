@@ -1,5 +1,6 @@
 -- Values that the definitions have, computed by the prover. Each is false where its definition is wrong.
 use Rattle.std.proofs.Common.{◌≡◌, ℕ, pos, negsuc, true, false, List, [], ◌∷◌, ◌++◌, Option, None, Some, Result, Ok, Err, codes, map, replicate, refl}
+use Rattle.std.specs.Fmt.{digits}
 use Rattle.vast_value.specs.declared.kind.Elem.TheVariants as elem
 use Rattle.vast_value.specs.declared.transport.Transport.TheVariants.{Udp}
 use Rattle.vast_value.specs.declared.value.Value.TheVariants as value
@@ -15,7 +16,8 @@ use Rattle.query_parse.specs.declared.fault.QueryWhat.{QueryWhat}
 use Rattle.query_parse.specs.declared.fault.QueryWhat.TheVariants.{Unexpected, BadLiteral, KindClash, TooDeep, TooLong}
 use Rattle.query_parse.specs.declared.lexeme.Lexeme.TheVariants as lexeme
 use Rattle.query_parse.specs.Faults.{most_bytes}
-use Rattle.query_parse.specs.Grammar.{turned}
+use Rattle.query_parse.specs.Grammar.{Plain, Turned, Negated, Group, Lone, Both, Only, turned}
+use Rattle.query_parse.specs.Laws.{is_writable, query_text}
 use Rattle.query_parse.specs.Lexemes.{is_blank, is_word_byte, word_lexeme}
 use Rattle.query_parse.specs.Parsing.{parsed}
 use Rattle.query_parse.specs.Tokens.{piece_of, tokens_of, lexemes_of}
@@ -137,3 +139,12 @@ trees = refl
 longest_query : (most_bytes ≡ 65536) × (fault_in (parsed (replicate 65537 32)) ≡ Some (65536, TooLong))
 unfolding parsed piece_of word_lexeme literal_read moment_of
 longest_query = (refl, refl)
+
+-- which names and literals can be written: no reserved word, and each value in its type's range but one of an enum
+writable : (is_writable (lexeme.Pick (Named (codes "in"))) ∷ is_writable (lexeme.Pick (Named (codes "ni"))) ∷ is_writable (lexeme.Pick (Named (codes "nil"))) ∷ is_writable (lexeme.Pick (Named (codes "T"))) ∷ is_writable (lexeme.Pick (Named (codes "F"))) ∷ is_writable (lexeme.Pick (Named (codes "9a"))) ∷ is_writable (lexeme.Pick (Named (codes "inn"))) ∷ is_writable (lexeme.Literal (Of (value.Count 18446744073709551615))) ∷ is_writable (lexeme.Literal (Of (value.Count 18446744073709551616))) ∷ is_writable (lexeme.Literal (Of (value.Name (codes "a")))) ∷ is_writable (lexeme.Literal (Of (value.Text (255 ∷ [])))) ∷ is_writable (lexeme.Literal Nil) ∷ []) ≡ (false ∷ false ∷ false ∷ false ∷ false ∷ false ∷ true ∷ true ∷ false ∷ false ∷ true ∷ true ∷ [])
+writable = refl
+
+-- the text of a query: a blank behind each token, and the bytes of a text as `\xHH`
+query_texts : (query_text (Only (Lone (Negated (Plain (OfKind elem.Text) Eq (Of (value.Text (codes "a\""))))))) ∷ query_text (Only (Both (Plain (Named (codes "a")) Within Nil) (Lone (Group (Only (Lone (Turned (Of (value.Port 53 Udp)) Ge EventTime))))))) ∷ []) ≡ ((codes "! :string == \"\\x61\\x22\" ") ∷ (codes "a in nil && ( 53/udp >= &time ) ") ∷ [])
+unfolding digits
+query_texts = refl
