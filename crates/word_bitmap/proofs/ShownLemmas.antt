@@ -1,5 +1,5 @@
 -- The bits that whole words and an unfinished one stand for.
-use Rattle.std.proofs.Common.{◌≡◌, ℕ, zero, suc, ◌+◌, ◌-◌, ◌*◌, ◌/◌, ◌%◌, ◌^◌, ◌<◌, ◌≤◌, Bool, true, false, List, [], ◌∷◌, ◌++◌, length, get_or, replicate, refl, ap, sym, ◌∙◌, subst, arith}
+use Rattle.std.proofs.Common.{◌≡◌, ◌+◌, ◌*◌, length, arith}
 use Rattle.std.proofs.lemmas.List.{length-append}
 use Rattle.word_bitmap.specs.Words.{bits_below, spelled, words_from, shown, IsSound}
 use Rattle.word_bitmap.specs.declared.words.Words.{Words}

@@ -1,6 +1,6 @@
 -- The bits of words, computed.
 use Rattle.std.proofs.Common.{◌≡◌, true, false, [], ◌∷◌, refl}
-use Rattle.word_bitmap.specs.Words.{bits_below, words_from, AreRising, reach}
+use Rattle.word_bitmap.specs.Words.{bits_below, words_from}
 
 -- 6 is 110 in binary, and its lowest bit comes first; bits past the number are left out
 six_in_two_and_four : (bits_below 6 2 ≡ false ∷ true ∷ []) × (bits_below 6 4 ≡ false ∷ true ∷ true ∷ false ∷ [])

@@ -1,8 +1,7 @@
 -- Bits that words stand for.
 use Rattle.std.proofs.Common.{◌≡◌, ℕ, zero, suc, ◌+◌, ◌-◌, ◌*◌, ◌/◌, ◌%◌, ◌^◌, ◌<◌, ◌≤◌, min, max, Bool, true, false, cond, eqb, not, ◌⊎◌, ◌&&◌, ◌||◌, List, [], ◌∷◌, ◌++◌, map, length, get_or, replicate, refl, ap, sym, ◌∙◌, subst, inl, inr, arith, Some}
-use Rattle.std.specs.Prelude.{bit_and, bit_or, bit_xor}
+use Rattle.std.specs.Prelude.{bit_and}
 use Rattle.std.specs.Int.{bit_at}
-use Rattle.std.proofs.lemmas.Bool.Decides.{nat_tests}
 use Rattle.std.proofs.lemmas.Bool.{cases_lt}
 use Rattle.std.proofs.lemmas.Nat.{shr-shr, shr_split, shl_whole, div-mul-add, mod-mul-add, pow-add, shr_below, mod-pow-add}
 use Rattle.std.proofs.Math.Nat.{mod-eq_of_lt, div-eq_of_lt, mul-le-mul_right, pow-le-pow_right, mod-one}
@@ -14,7 +13,7 @@ use Rattle.std.proofs.lemmas.List.Sums.{sum_by-append, count_by-le-length}
 use Rattle.std.proofs.lemmas.Simd.{ones-mask_l}
 use Rattle.std.specs.Simd.Lanes.{mask_l}
 use Rattle.std.proofs.lemmas.Option.{slice_get-get_or}
-use Rattle.bits_law.specs.Bitwise.{bitwise, and_not}
+use Rattle.bits_law.specs.Bitwise.{bitwise}
 use Rattle.bits_law.proofs.BitwiseLemmas.{length-bitwise, get_or-bitwise, bitwise-append}
 use Rattle.word_bitmap.specs.Words.{bits_below, spelled, joins, word_of}
 use Rattle.word_bitmap.specs.declared.combine.Ones.{Ones}

@@ -1,7 +1,4 @@
-use Rattle.std.proofs.Common.{◌≡◌, ◌+◌, ◌-◌, ◌++◌, ◌<◌, ◌≤◌, cond, eqb, length, get_or, drop, take, replicate, append-nil, ap, sym, ◌∙◌, refl, subst, arith}
-use Rattle.std.proofs.lemmas.List.{drop_all}
-use Rattle.bits_law.specs.Bitwise.{bitwise}
-use Rattle.word_bitmap.specs.Words.{words_from, spelled, joins, word_of, reach}
+use Rattle.std.proofs.Common.{◌<◌, ◌∙◌, arith}
 use Rattle.word_bitmap.proofs.WordLemmas.{combine_more, combine_end}
 use Rattle.word_bitmap.proofs.PieceLemmas.{some_left, after_piece, after_words, none_left, empty_left}
 use Rattle.word_bitmap.proofs.edits.combined.Goals as goal

@@ -1,4 +1,4 @@
-use Rattle.std.proofs.Common.{◌≡◌, ◌-◌, ◌≤◌, ◌^◌, ◌++◌, drop}
+use Rattle.std.proofs.Common.{◌≡◌, ◌-◌, ◌++◌, drop}
 use Rattle.bits_law.specs.Bitwise.{bitwise}
 use Rattle.word_bitmap.specs.Words.{words_from, AreRising, reach, spelled, joins}
 use Rattle.word_bitmap.proofs.edits.combined.Given as goal

@@ -1,4 +1,4 @@
-use Rattle.std.proofs.Common.{◌≡◌, ◌+◌, ◌-◌, ◌++◌, ◌<◌, ℕ, length, get_or, replicate, ap, sym, ◌∙◌, List, arith, subst}
+use Rattle.std.proofs.Common.{◌≡◌, ◌+◌, ◌-◌, ◌++◌, ◌<◌, ℕ, length, get_or, replicate, ap, sym, ◌∙◌, List, arith}
 use Rattle.std.proofs.lemmas.List.{get_or_default}
 use Rattle.word_bitmap.specs.Words.{words_from}
 use Rattle.word_bitmap.specs.declared.piece.Piece.{Piece}

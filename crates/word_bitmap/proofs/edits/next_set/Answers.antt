@@ -1,4 +1,4 @@
-use Rattle.std.proofs.Common.{◌≡◌, ℕ, ◌<◌, ◌≤◌, length, get_or, [], ap, sym, ◌∙◌, subst, append-nil, arith}
+use Rattle.std.proofs.Common.{get_or, [], ap, sym, ◌∙◌, append-nil, arith}
 use Rattle.word_bitmap.specs.Words.{words_from}
 use Rattle.word_bitmap.proofs.PieceLemmas.{partitioned, found, after_piece, zeros_more, word_left, some_left, reach_le, reach_drop}
 use Rattle.word_bitmap.proofs.edits.next_set.Goals as goal

@@ -1,4 +1,4 @@
-use Rattle.std.proofs.Common.{◌≡◌, ◌+◌, ◌-◌, ◌≤◌, drop, get_or, ap, sym, ◌∙◌, arith}
+use Rattle.std.proofs.Common.{ap, ◌∙◌, arith}
 use Rattle.std.specs.List.{count_by}
 use Rattle.word_bitmap.specs.Words.{words_from, spelled}
 use Rattle.std.proofs.lemmas.List.{drop_all}

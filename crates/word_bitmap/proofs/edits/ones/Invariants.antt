@@ -1,4 +1,4 @@
-use Rattle.std.proofs.Common.{◌≡◌, ◌+◌, ◌*◌, ◌≤◌, take, drop}
+use Rattle.std.proofs.Common.{◌≡◌, ◌+◌, ◌*◌, ◌≤◌, drop}
 use Rattle.std.specs.List.{count_by}
 use Rattle.word_bitmap.specs.Words.{words_from, AreRising, reach, spelled}
 use Rattle.word_bitmap.proofs.edits.ones.Given as goal

@@ -1,4 +1,4 @@
-use Rattle.std.proofs.Common.{◌++◌, ap, sym, ◌∙◌}
+use Rattle.std.proofs.Common.{◌++◌, ap, ◌∙◌}
 use Rattle.word_bitmap.specs.Words.{bits_below, spelled, words_from}
 use Rattle.word_bitmap.proofs.WordLemmas.{low_below}
 use Rattle.word_bitmap.proofs.bitmap.WordBitmap.push_word.Goals as goal

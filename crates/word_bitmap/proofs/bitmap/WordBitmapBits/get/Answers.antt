@@ -1,4 +1,4 @@
-use Rattle.std.proofs.Common.{◌+◌, ◌*◌, ◌/◌, ◌%◌, length, eqb, ap, sym, ◌∙◌, arith, Some}
+use Rattle.std.proofs.Common.{◌/◌, ◌%◌, length, eqb, ap, sym, ◌∙◌, arith, Some}
 use Rattle.std.specs.List.{slice_get}
 use Rattle.std.specs.Prelude.{bit_and, ◌^◌}
 use Rattle.std.proofs.lemmas.Nat.Bits.{shr_and_one}

@@ -1,4 +1,4 @@
-use Rattle.std.proofs.Common.{ap, sym, ◌∙◌}
+use Rattle.std.proofs.Common.{ap, ◌∙◌}
 use Rattle.word_bitmap.specs.Words.{shown}
 use Rattle.word_bitmap.proofs.WordLemmas.{not_self}
 use Rattle.std.proofs.Common.{not, map}

@@ -1,5 +1,5 @@
-use Rattle.std.proofs.Common.{◌≡◌, ◌+◌, ◌*◌, ◌%◌, ◌^◌, ap, sym, ◌∙◌, length, arith}
-use Rattle.word_bitmap.specs.Words.{words_from, spelled, reach}
+use Rattle.std.proofs.Common.{◌%◌, ◌^◌, ap, sym, ◌∙◌, arith}
+use Rattle.word_bitmap.specs.Words.{words_from, reach}
 use Rattle.word_bitmap.proofs.WordLemmas.{combine_all}
 use Rattle.word_bitmap.proofs.PieceLemmas.{length_words}
 use Rattle.word_bitmap.proofs.ShownLemmas.{same_length}

@@ -1,4 +1,4 @@
-use Rattle.std.proofs.Common.{ap, sym, ◌∙◌, arith}
+use Rattle.std.proofs.Common.{ap, arith}
 use Rattle.std.specs.List.{count_by}
 use Rattle.word_bitmap.specs.Words.{words_from, spelled}
 use Rattle.word_bitmap.proofs.WordLemmas.{count_all}

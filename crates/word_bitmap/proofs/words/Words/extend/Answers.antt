@@ -1,4 +1,3 @@
-use Rattle.std.proofs.Common.{arith}
 use Rattle.word_bitmap.specs.Words.{shown}
 use Rattle.word_bitmap.proofs.WordLemmas.{extend_bits}
 use Rattle.word_bitmap.proofs.words.Words.extend.Goals as goal

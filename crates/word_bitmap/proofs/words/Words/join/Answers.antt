@@ -1,5 +1,5 @@
-use Rattle.std.proofs.Common.{◌≡◌, ◌+◌, ◌-◌, ◌*◌, ◌≤◌, ◌++◌, length, get_or, drop, ap, sym, ◌∙◌, subst, arith}
-use Rattle.word_bitmap.specs.Words.{words_from, spelled, shown}
+use Rattle.std.proofs.Common.{◌∙◌, arith}
+use Rattle.word_bitmap.specs.Words.{shown}
 use Rattle.word_bitmap.proofs.WordLemmas.{join_more}
 use Rattle.word_bitmap.proofs.PieceLemmas.{after_piece, reach_le}
 use Rattle.word_bitmap.proofs.words.Words.join.Goals as goal

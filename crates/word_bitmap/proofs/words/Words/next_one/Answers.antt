@@ -1,4 +1,4 @@
-use Rattle.std.proofs.Common.{◌≡◌, ◌/◌, ◌%◌, ◌^◌, ◌<◌, ◌≤◌, length, get_or, ap, sym, ◌∙◌, subst, arith}
+use Rattle.std.proofs.Common.{◌/◌, ◌%◌, ◌^◌, ap, sym, ◌∙◌, arith}
 use Rattle.word_bitmap.specs.Words.{words_from}
 use Rattle.word_bitmap.proofs.PieceLemmas.{length_words}
 use Rattle.word_bitmap.proofs.NextLemmas.{first_here, first_later, none_later, none_here}

@@ -1,4 +1,4 @@
-use Rattle.std.proofs.Common.{◌≡◌, ◌+◌, ◌-◌, ◌<◌, ◌^◌, ap, sym, ◌∙◌, subst, arith}
+use Rattle.std.proofs.Common.{◌≡◌, ◌+◌, ◌-◌, ◌<◌, ◌^◌, sym, subst, arith}
 use Rattle.word_bitmap.specs.Words.{words_from}
 use Rattle.word_bitmap.proofs.WordLemmas.{two_parts, put_last, put_within, put_over, high_small, high_is}
 use Rattle.word_bitmap.proofs.words.Words.put.Goals as goal

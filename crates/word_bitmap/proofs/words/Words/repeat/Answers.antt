@@ -1,4 +1,4 @@
-use Rattle.std.proofs.Common.{◌≡◌, ◌+◌, ◌-◌, ◌<◌, ◌^◌, suc, refl, ap, sym, ◌∙◌, subst, arith}
+use Rattle.std.proofs.Common.{◌≡◌, ◌+◌, ◌-◌, suc, refl, arith}
 use Rattle.word_bitmap.specs.Words.{words_from, shown}
 use Rattle.word_bitmap.proofs.WordLemmas.{repeat_words}
 use Rattle.word_bitmap.proofs.words.Words.repeat.Goals as goal

@@ -1,4 +1,4 @@
-use Rattle.std.proofs.Common.{◌<◌, ◌≤◌, length, ap, sym, ◌∙◌, [], ◌∷◌, arith}
+use Rattle.std.proofs.Common.{length, ap, [], ◌∷◌, arith}
 use Rattle.word_bitmap.proofs.PieceLemmas.{partitioned, word_found, last_found}
 use Rattle.word_bitmap.proofs.words.Words.word.Goals as goal
 
