@@ -1,0 +1,5 @@
+mod Vectors
+pub mod WordLemmas
+pub mod PieceLemmas
+pub mod ShownLemmas
+pub mod NextLemmas

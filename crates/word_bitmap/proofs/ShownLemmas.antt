@@ -1,0 +1,19 @@
+-- The bits that whole words and an unfinished one stand for.
+use Rattle.std.proofs.Common.{◌≡◌, ◌+◌, ◌*◌, length, arith}
+use Rattle.std.proofs.lemmas.List.{length-append}
+use Rattle.word_bitmap.specs.Words.{bits_below, spelled, words_from, shown, IsSound}
+use Rattle.word_bitmap.specs.declared.words.Words.{Words}
+use Rattle.word_bitmap.proofs.WordLemmas.{length_below, length_spelled}
+use Rattle.word_bitmap.proofs.PieceLemmas.{length_words}
+
+pub length_shown : (w : Words) → IsSound w → length (shown w) ≡ 64 * w.full + w.held
+length_shown w h =
+    let all = length-append (spelled (words_from 0 w.pieces.items)) (bits_below w.last w.held) in
+    let whole = length_words 0 w.pieces.items h.rising in
+    omega (arith, length_below w.last w.held, length_spelled (words_from 0 w.pieces.items), h.full)
+
+pub same_length : (v w : Words) → IsSound v → IsSound w → length (shown v) ≡ length (shown w) → (v.full ≡ w.full) × (v.held ≡ w.held)
+same_length v w g h e =
+    let one = length_shown v g in
+    let two = length_shown w h in
+    (omega (arith, g.held, h.held), omega (arith, g.held, h.held))

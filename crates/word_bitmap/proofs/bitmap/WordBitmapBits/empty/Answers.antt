@@ -1,0 +1,5 @@
+use Rattle.word_bitmap.proofs.WordLemmas.{below_none}
+use Rattle.word_bitmap.proofs.bitmap.WordBitmapBits.empty.Goals as goal
+
+pub returns : goal.returns
+returns c = rw c.new.ensures.items (below_none 0)
