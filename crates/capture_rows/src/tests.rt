@@ -135,3 +135,38 @@ fn a_capture_cut_in_a_record_has_its_packets_and_its_flow(rt: HostRuntime) -> Re
     assert_eq!(rt; all.as_slice().len(), 1);
     Ok(())
 }
+
+// The head of an IPv4 packet from 10.0.0.1 to 10.0.0.2; its protocol is the tenth byte.
+const HEAD: [u8; 20] = [
+    0x45, 0, 0, 0x14, 0, 0, 0, 0, 0x40, 0, 0, 0, 0x0a, 0, 0, 1, 0x0a, 0, 0, 2,
+];
+
+// Whether the row of a raw IPv4 packet of this protocol ends with the name.
+fn ends_with(alloc: Global, protocol: u8, name: &[u8]) -> Result<bool, AllocError> {
+    let mut bytes = HEAD;
+    bytes[9] = protocol;
+    let packet = Packet {
+        time: 0,
+        captured: 20,
+        original: 20,
+        parts: decode(101, bytes.as_slice()),
+    };
+    let row = packet_row(alloc, &packet)?;
+    let Some(Cell::One(Value::Name(told))) = row.as_slice().last() else {
+        return Ok(false);
+    };
+    Ok(told.as_slice() == name)
+}
+
+#[test]
+fn a_protocol_is_named_or_numbered(rt: HostRuntime) -> Result<(), Fail> {
+    let alloc = rt.alloc();
+    assert!(rt; ends_with(alloc, 1, b"icmp".as_slice())?);
+    assert!(rt; ends_with(alloc, 6, b"tcp".as_slice())?);
+    assert!(rt; ends_with(alloc, 17, b"udp".as_slice())?);
+    assert!(rt; ends_with(alloc, 58, b"icmp6".as_slice())?);
+    assert!(rt; ends_with(alloc, 0, b"0".as_slice())?);
+    assert!(rt; ends_with(alloc, 47, b"47".as_slice())?);
+    assert!(rt; ends_with(alloc, 255, b"255".as_slice())?);
+    Ok(())
+}

@@ -126,26 +126,3 @@ fn a_packet_has_a_row(rt: HostRuntime) -> Result<(), Fail> {
     assert_eq!(rt; number(&row, 6), Some(53));
     Ok(())
 }
-
-// Whether the row of a packet of this protocol ends with the name.
-fn ends_with(alloc: Global, protocol: u8, name: &[u8]) -> Result<bool, AllocError> {
-    let mut packet = packet(0, 50);
-    packet.parts.protocol = Some(protocol);
-    let row = packet_row(alloc, &packet)?;
-    let Some(Cell::One(Value::Name(told))) = row.as_slice().last() else {
-        return Ok(false);
-    };
-    Ok(told.as_slice() == name)
-}
-
-#[test]
-fn a_protocol_is_named_or_numbered(rt: HostRuntime) -> Result<(), Fail> {
-    let alloc = rt.alloc();
-    assert!(rt; ends_with(alloc, 1, b"icmp".as_slice())?);
-    assert!(rt; ends_with(alloc, 6, b"tcp".as_slice())?);
-    assert!(rt; ends_with(alloc, 58, b"icmp6".as_slice())?);
-    assert!(rt; ends_with(alloc, 0, b"0".as_slice())?);
-    assert!(rt; ends_with(alloc, 47, b"47".as_slice())?);
-    assert!(rt; ends_with(alloc, 255, b"255".as_slice())?);
-    Ok(())
-}
