@@ -8,11 +8,11 @@ use Rattle.vast_value.specs.Headings.{Heading, field_of, fits_fields}
 use Rattle.vast_value.proofs.HeadingLemmas.{fits_fields-map}
 use Rattle.query_meaning.specs.declared.expr.Expr.{Expr}
 use Rattle.query_meaning.specs.Meaning.{holds}
-use Rattle.zeek_log.specs.declared.step.Step.TheVariants as step
 use Rattle.zeek_log.specs.declared.step.ZeekEnd.{ZeekEnd}
+use Rattle.zeek_log.specs.Reader.{heading_or_none}
 use Rattle.zeek_log.specs.Steps.{Steps, ended, first}
 use Rattle.zeek_log.specs.Table.{Head, Line}
-use Rattle.vast.specs.Reports.{Carries, FitsLast, scan_behind, match_text, heading_or_none, check_behind, counted_text}
+use Rattle.vast.specs.Reports.{Carries, FitsLast, scan_behind, match_text, check_behind, counted_text}
 use Rattle.vast.specs.Texts.{Event, events_behind, row_text, line, part_text, parts_of, rows_first, check_text, check_end, scan_end}
 
 pub fits_layout : (columns : List Column) (row : List Cell) → IsTrue (fits_fields (map field_of columns) row) → IsTrue (fits_columns columns row)
@@ -42,6 +42,11 @@ scan_line heading expr cells out now is = λ rest.
     ∙ sym (append_assoc out (match_text heading cells expr) (scan_behind heading expr rest))
     ∙ ap (λ (t : List ℕ). t ++ scan_behind heading expr rest) (sym is)
 
+-- a row of the last layout matches where the query with its columns chosen holds
+row_of : (heading : Heading) (cells : List Cell) (expr : Expr) (resolved : Resolved) (b : Bool) → IsOf heading expr resolved → IsTrue (fits_fields heading.fields cells)
+    → b ≡ resolved_holds cells resolved → b ≡ holds heading cells expr
+row_of heading cells expr resolved b is fits held = held ∙ is cells (fits_lengths heading.fields cells fits)
+
 -- ---- layouts
 
 abbrev counted : Heading → ℕ → List ℕ
@@ -68,7 +73,7 @@ check_head heading rows next out now is = λ rest.
     ∙ sym (append_assoc out (counted_text heading rows) (check_behind (Some next) 0 rest))
     ∙ ap (λ (t : List ℕ). t ++ check_behind (Some next) 0 rest) (sym is)
 
-pub check_line : (heading : Option Heading) (rows : ℕ) (cells : List Cell) (out : List ℕ) → FitsLast heading (step.Line cells)
+pub check_line : (heading : Option Heading) (rows : ℕ) (cells : List Cell) (out : List ℕ) → FitsLast heading (Line cells)
     → Carries (check_behind heading rows) (check_behind heading (rows + 1)) (Line cells) out out
 check_line None rows cells out fits = absurd fits
 check_line (Some heading) rows cells out fits = λ rest.
