@@ -414,7 +414,7 @@ false_true : false ≡ true → ⊥
 false_true same = cc
 
 abbrev Answered : Type 0
-Answered = Result Step ZeekEnd
+Answered = Result LogStep ZeekEnd
 
 end_in : ZeekEnd → Answered → ZeekEnd
 end_in other (Ok step) = other
@@ -688,3 +688,10 @@ pub step_kept : (st : State) (x : LogStep) (f g : ℕ) → CountsOf st (Ok x) f 
 step_kept (Reads told n) x f g counts = counts
 step_kept (Last told) x f g counts = counts
 step_kept (Ended e) x f g counts = counts
+
+-- a read failed where that is the end
+pub rose_at : (st : State) (old new : Reading) (mid left_now : Option (List ℕ)) (e : ZeekEnd) (f g : ℕ) → is_open st ≡ true → Follows st old new mid left_now (Err e)
+    → CountsOf st (Err e) f g → e ≡ end.ReadFault → Rose f g
+rose_at (Ended last) old new mid left_now e f g is_opened follows counts read = absurd (false_true is_opened)
+rose_at (Last told) old new mid left_now e f g is_opened follows counts read = let done : e ≡ end.Done = err_is e end.Done follows.0 in let no = sym read ∙ done in cc
+rose_at (Reads told n) old new mid left_now e f g is_opened follows counts read = subst (λ (x : ZeekEnd). CountsBy (Err x) f g) read counts

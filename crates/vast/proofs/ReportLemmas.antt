@@ -1,13 +1,16 @@
 -- How each report goes on by a step.
-use Rattle.std.proofs.Common.{◌≡◌, ℕ, ◌+◌, Bool, true, false, List, [], ◌∷◌, ◌++◌, Option, None, Some, refl, ap, sym, ◌∙◌, append_assoc, cond, map, IsTrue, subst, arith}
+use Rattle.std.proofs.Common.{◌≡◌, ℕ, ◌+◌, Bool, true, false, List, [], ◌∷◌, ◌++◌, Option, None, Some, refl, ap, sym, ◌∙◌, append_assoc, cond, length, map, suc, IsTrue, subst, arith}
+use Rattle.std.proofs.lemmas.Bool.{and_parts}
 use Rattle.std.specs.List.{filter, flat_map}
 use Rattle.vast_value.specs.declared.cell.Cell.{Cell}
 use Rattle.vast_value.specs.declared.column.Column.{Column}
 use Rattle.vast_value.specs.Fit.{fits_columns}
-use Rattle.vast_value.specs.Headings.{Heading, field_of, fits_fields}
+use Rattle.vast_value.specs.Headings.{Field, Heading, field_of, fits_field, fits_fields}
 use Rattle.vast_value.proofs.HeadingLemmas.{fits_fields-map}
 use Rattle.query_meaning.specs.declared.expr.Expr.{Expr}
+use Rattle.query_meaning.specs.declared.resolved.Resolved.{Resolved}
 use Rattle.query_meaning.specs.Meaning.{holds}
+use Rattle.query_meaning.specs.Resolving.{IsOf, resolved_holds}
 use Rattle.zeek_log.specs.declared.step.ZeekEnd.{ZeekEnd}
 use Rattle.zeek_log.specs.Reader.{heading_or_none}
 use Rattle.zeek_log.specs.Steps.{Steps, ended, first}
@@ -42,10 +45,20 @@ scan_line heading expr cells out now is = λ rest.
     ∙ sym (append_assoc out (match_text heading cells expr) (scan_behind heading expr rest))
     ∙ ap (λ (t : List ℕ). t ++ scan_behind heading expr rest) (sym is)
 
--- a row of the last layout matches where the query with its columns chosen holds
-row_of : (heading : Heading) (cells : List Cell) (expr : Expr) (resolved : Resolved) (b : Bool) → IsOf heading expr resolved → IsTrue (fits_fields heading.fields cells)
-    → b ≡ resolved_holds cells resolved → b ≡ holds heading cells expr
-row_of heading cells expr resolved b is fits held = held ∙ is cells (fits_lengths heading.fields cells fits)
+fits_lengths : (fields : List Field) (cells : List Cell) → fits_fields fields cells ≡ true → length fields ≡ length cells
+fits_lengths [] [] fits = refl
+fits_lengths [] (x ∷ xs) fits = cc
+fits_lengths (f ∷ fs) [] fits = cc
+fits_lengths (f ∷ fs) (x ∷ xs) fits = ap suc (fits_lengths fs xs (and_parts (fits_field f x) (fits_fields fs xs) fits).1)
+
+-- a row of the last layout matches where the query with its columns chosen for it holds
+pub match_is : (last : Option Heading) (cells : List Cell) (expr : Expr) (resolved : Resolved) (b : Bool)
+    → ((heading : Heading) → last ≡ Some heading → IsOf heading expr resolved) → FitsLast last (Line cells) → b ≡ resolved_holds cells resolved
+    → match_text last cells expr ≡ cond b (line (row_text (record { heading = heading_or_none last; cells = cells }))) []
+match_is None cells expr resolved b chosen fits held = absurd fits
+match_is (Some heading) cells expr resolved b chosen fits held =
+    ap (λ (c : Bool). cond c (line (row_text (record { heading = heading; cells = cells }))) [])
+    (sym (held ∙ chosen heading refl cells (fits_lengths heading.fields cells fits)))
 
 -- ---- layouts
 

@@ -75,7 +75,6 @@ impl Report for ScanReport {
 }
 
 // Puts the line of the row at which the reader stands behind what `out` holds, if it matches.
-#[tactic(auto, using(crate::proofs::ReportLemmas::match_is))]
 fn push_match(
     alloc: Global,
     report: &ScanReport,

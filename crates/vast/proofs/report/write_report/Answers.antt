@@ -1,12 +1,13 @@
 use Rattle.std.proofs.Common.{ℕ, ◌++◌, refl, Option, Err, subst, sym, ap, ◌∙◌, arith}
 use Rattle.vast_io.proofs.Writing.{part_none}
+use Rattle.vast_io.specs.Causes.{Rose}
 use Rattle.vast_value.specs.Headings.{Heading}
 use Rattle.zeek_log.specs.Reader.{CountsOf, heading_told, step_at}
 use Rattle.zeek_log.specs.declared.step.ZeekEnd.TheVariants.{Done}
 use Rattle.zeek_log.specs.Steps.{ended, first}
 use Rattle.vast.specs.declared.status.Status.TheVariants.{Memory}
 use Rattle.vast.specs.Reports.{heading_after}
-use Rattle.vast.proofs.GoingLemmas.{Parts, going_next, going_moves, going_part, told_cut, cut_status, IsCut, told_at, some_cut, some_at, reads_well, leaves_nothing, sink_on, is_memory, heading_goes, open_by, step_kept}
+use Rattle.vast.proofs.GoingLemmas.{Parts, going_next, going_moves, going_part, told_cut, cut_status, IsCut, told_at, some_cut, some_at, reads_well, leaves_nothing, sink_on, is_memory, heading_goes, open_by, rose_at, step_kept}
 use Rattle.vast.proofs.report.write_report.Goals as goal
 
 pub returns-in_default-clause-untold : goal.returns-in_default-clause-untold
@@ -74,6 +75,12 @@ returns-in-Err-clause-reads g c =
     reads_well (is_memory c.in-Err.end) c.loop-moved.reader.at.state c.write_end.result c.in-Err.end
     (c.loop-moved.buffer.text ++ g.W.Report.behind c.loop-moved.report (ended c.in-Err.end)) (g.K.Sink.written c.loop-moved.sink) (g.K.Sink.written c.write_end.new.sink)
     (g.S.Source.faults c.args.source.now) (g.S.Source.faults c.advance.new.source) refl fault_count c.write_end.ensures.ended c.write_end.ensures.memory
+
+pub returns-in-Err-clause-read : goal.returns-in-Err-clause-read
+returns-in-Err-clause-read g c = λ failed.
+    subst (λ (n : ℕ). Rose n (g.S.Source.faults c.advance.new.source)) c.loop-moved.invariant.source_kept
+    (rose_at c.loop-moved.reader.at.state c.loop-moved.reader.at c.advance.new.self.at (g.S.Source.left c.loop-moved.source) (g.S.Source.left c.advance.new.source) c.in-Err.end
+    (g.S.Source.faults c.loop-moved.source) (g.S.Source.faults c.advance.new.source) c.loop-moved.invariant.reads c.in-Err.ensures.next c.in-Err.ensures.counts (c.write_end.ensures.read failed))
 
 pub returns-in-Err-clause-ends : goal.returns-in-Err-clause-ends
 returns-in-Err-clause-ends g c =
