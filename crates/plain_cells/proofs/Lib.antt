@@ -1,5 +1,6 @@
 pub mod BoolLemmas
 pub mod DigitLemmas
+pub mod FrontLemmas
 pub mod LaneLemmas
 pub mod OctetLemmas
 pub mod PartLemmas

@@ -257,3 +257,8 @@ pub load_short : (p : ℕ → Bool) (to count : ℕ) (text before after places :
     → after ≡ before ++ ones_of 64 at marks → after ≡ places_of p 0 (take to text) → to ≤ count → length places < length (places_of p 0 (take count text))
 load_short p to count text before after places n at marks short long put is low =
     omega (arith, short, long, ap length put, ap length is, length-append before (ones_of 64 at marks), places-le p to count text low)
+
+-- the places of a line and of its newline
+pub line_cut : (p : ℕ → Bool) (at last end : ℕ) (text before after : List ℕ) → end ≡ at + last → before ≡ places_of p 0 (take (at + last) text) → after ≡ before ++ (at + last) ∷ [] → after ≡ places_of p 0 (take end text) ++ end ∷ []
+line_cut p at last end text before after is had put =
+    put ∙ ap (λ (l : List ℕ). l ++ (at + last) ∷ []) had ∙ ap (λ (n : ℕ). places_of p 0 (take n text) ++ n ∷ []) (sym is)

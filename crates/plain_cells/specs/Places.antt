@@ -1,5 +1,6 @@
 -- The places of bytes in a text, and what stands between them.
-use Rattle.std.specs.Prelude.{ℕ, zero, suc, ◌+◌, ◌-◌, ◌/◌, ◌%◌, ◌==◌, Bool, if◌then◌else◌, List, [], ◌∷◌, take, drop}
+use Rattle.std.specs.Prelude.{◌≡◌, ◌<◌, ◌≤◌, ◌++◌, length, ℕ, zero, suc, ◌+◌, ◌-◌, ◌/◌, ◌%◌, ◌==◌, Bool, if◌then◌else◌, List, [], ◌∷◌, take, drop}
+use Rattle.std.specs.List.{position_or_len}
 
 -- the places of the bytes that pass, the first byte being at so much
 abbrev pub places_of : (ℕ → Bool) → ℕ → List ℕ → List ℕ
@@ -17,3 +18,12 @@ ones_of (suc more) at marks =
 abbrev pub cut_at : List ℕ → ℕ → List ℕ → List (List ℕ)
 cut_at [] from text = drop from text ∷ []
 cut_at (to ∷ more) from text = take (to - from) (drop from text) ∷ cut_at more (to + 1) text
+
+abbrev pub is_newline : ℕ → Bool
+is_newline b = b == 10
+
+-- The first places are those of the separators before the first newline, and that newline's.
+pub record CutsLine (separator : ℕ) (text places : List ℕ) (count : ℕ) : Type 0 where
+  pub within : count ≤ length places
+  pub newline : position_or_len is_newline text < length text
+  pub are : take count places ≡ places_of (λ b. b == separator) 0 (take (position_or_len is_newline text) text) ++ position_or_len is_newline text ∷ []

@@ -14,5 +14,5 @@ mod seconds;
 pub use bools::is_plain_bool;
 pub use digits::{is_plain_count, is_plain_port};
 pub use dotted::is_plain_address;
-pub use places::byte_places;
+pub use places::{byte_places, line_places};
 pub use seconds::is_plain_time;

@@ -1,7 +1,7 @@
 //! The places of a byte, found 32 bytes at a time.
-ghost use Rattle.std.specs.Prelude.{◌≡◌, ◌+◌, ◌^◌, ◌<◌, ◌≤◌, ◌==◌, ◌++◌, length, take, map, IfSome, IsNone};
+ghost use Rattle.std.specs.Prelude.{◌≡◌, ◌+◌, ◌^◌, ◌<◌, ◌≤◌, ◌==◌, ◌++◌, [], ◌∷◌, length, take, map, IfSome, IsNone};
 ghost use Rattle.std.specs.Simd.Lanes.{mask_l};
-ghost use Rattle.plain_cells.specs.Places.{places_of, ones_of};
+ghost use Rattle.plain_cells.specs.Places.{places_of, ones_of, CutsLine};
 
 use std::simd::prelude::*;
 
@@ -63,4 +63,44 @@ pub fn byte_places(byte: u8, text: &[u8], count: usize, places: &mut [u32]) -> O
     let marks = marks_of_32(byte, rest) % (1 << (count - at));
     let all = put_ones(marks, at as u32, places, n)?;
     Some(all)
+}
+
+// Puts one place behind the first `count` places.
+#[inline(always)]
+fn put_place(place: u32, places: &mut [u32], count: usize) -> Option<usize>
+    ensures within { IfSome result (λ n. n ≤ length places.old) }
+    ensures put { IfSome result (λ n. take n places.new ≡ take count places.old ++ place ∷ []) }
+    ensures short { IsNone result → length places.old < count + 1 }
+{
+    if count >= places.len() {
+        return None;
+    }
+    places[count] = place;
+    Some(count + 1)
+}
+
+/// Writes the places of a separator before the first newline, and behind them the place of that newline, to the front of
+/// `places`, and answers how many they are. It answers `None` where `places` is too short for them, and where no newline
+/// stands before the last 32 bytes.
+#[inline(never)]
+pub fn line_places(separator: u8, text: &[u8], places: &mut [u32]) -> Option<usize>
+    requires { length text.now < 2 ^ 31 }
+    ensures { IfSome result (λ n. CutsLine separator text.now places.new n) }
+{
+    let mut n = 0;
+    let mut at = 0;
+    while at + LANES <= text.len() {
+        let (_, rest) = text.split_at(at);
+        let marks = marks_of_32(separator, rest);
+        let ends = marks_of_32(b'\n', rest);
+        if ends != 0 {
+            let last = ends.trailing_zeros();
+            let before = put_ones(marks % (1 << last), at as u32, places, n)?;
+            let all = put_place(at as u32 + last, places, before)?;
+            return Some(all);
+        }
+        n = put_ones(marks, at as u32, places, n)?;
+        at += LANES;
+    }
+    None
 }
