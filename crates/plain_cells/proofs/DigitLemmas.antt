@@ -33,20 +33,24 @@ pub record Reads (n : ℕ) (ds : List ℕ) : Type 0 where
   pub is : number_behind n ds ≡ Some number
   pub below : number < (n + 1) * 10 ^ length ds
   pub above : n ≤ number
+  pub from : n * 10 ^ length ds ≤ number
 
 pub digits_read : (n : ℕ) (ds : List ℕ) → list_all is_digit ds ≡ true → Reads n ds
-digits_read n [] all = record { number = n; is = refl; below = omega arith; above = omega arith }
+digits_read n [] all = record { number = n; is = refl; below = omega arith; above = omega arith; from = omega arith }
 digits_read n (d ∷ ds) all =
     let both = and_parts (is_digit d) (list_all is_digit ds) all in
     let bounds = digit_bounds d both.0 in
     let more : Reads (n * 10 + (d - 48)) ds = digits_read (n * 10 + (d - 48)) ds both.1 in
     let whole : (n + 1) * 10 ^ suc (length ds) ≡ (n + 1) * 10 * 10 ^ length ds = ap (λ (p : ℕ). (n + 1) * p) (pow-succ' 10 (length ds)) ∙ sym (mul_assoc (n + 1) 10 (10 ^ length ds)) in
     let wide : (n * 10 + (d - 48) + 1) * 10 ^ length ds ≤ (n + 1) * 10 * 10 ^ length ds = mul-le-mul_right (10 ^ length ds) (omega arith) in
+    let part : n * 10 ^ suc (length ds) ≡ n * 10 * 10 ^ length ds = ap (λ (p : ℕ). n * p) (pow-succ' 10 (length ds)) ∙ sym (mul_assoc n 10 (10 ^ length ds)) in
+    let low : n * 10 * 10 ^ length ds ≤ (n * 10 + (d - 48)) * 10 ^ length ds = mul-le-mul_right (10 ^ length ds) (omega arith) in
     record {
       number = more.number;
       is = cond-true (is_digit d) (number_behind (n * 10 + (d - 48)) ds) None both.0 ∙ more.is;
       below = omega (arith, more.below, wide, whole);
       above = omega (arith, more.above);
+      from = omega (arith, more.from, part, low);
     }
 
 at_most_some : (most n : ℕ) → n ≤ most → IsSome (if_at_most most n)
@@ -103,12 +107,15 @@ port_some None some = some
 port_some (Some number) some = refl
 
 -- digits of a port without a transport
-pub port_digits : (ds : List ℕ) → list_all is_digit ds ≡ true → IsSome (number_up_to 65535 ds) → IsSome (port_of ds)
-port_digits ds all some =
+pub port_is : (ds : List ℕ) → list_all is_digit ds ≡ true → port_of ds ≡ option_and_then (λ (number : ℕ). Some (number, Unknown)) (number_up_to 65535 ds)
+port_is ds all =
     let at : position_or_len is_slash ds ≡ length ds = no_slash ds all in
     let front : before_first is_slash ds ≡ ds = ap (λ (n : ℕ). take n ds) at ∙ take_all (length ds) ds (omega arith) in
     let back : from_slash ds ≡ [] = ap (λ (n : ℕ). drop n ds) at ∙ drop_all (length ds) ds (omega arith) in
-    ap is_some (ap₂ (λ (a b : List ℕ). port_by a (transport_behind b)) front back) ∙ port_some (number_up_to 65535 ds) some
+    ap₂ (λ (a b : List ℕ). port_by a (transport_behind b)) front back
+
+pub port_digits : (ds : List ℕ) → list_all is_digit ds ≡ true → IsSome (number_up_to 65535 ds) → IsSome (port_of ds)
+port_digits ds all some = ap is_some (port_is ds all) ∙ port_some (number_up_to 65535 ds) some
 
 pub four_within : (ds : List ℕ) → list_all is_digit ds ≡ true → 0 < length ds → length ds ≤ 4 → IsSome (number_up_to 65535 ds)
 four_within ds all some few =

@@ -28,7 +28,7 @@ some-map f (Some x) some = refl
 abbrev pub has_none : List ℕ → Type 0
 has_none raw = list_any (λ b. b == 92) raw ≡ false
 
-set_plain : (marks : Marks) (e : Elem) (raw : List ℕ) → is_text e ≡ false → has_none raw → set_read marks e raw ≡ value_read e raw
+pub set_plain : (marks : Marks) (e : Elem) (raw : List ℕ) → is_text e ≡ false → has_none raw → set_read marks e raw ≡ value_read e raw
 set_plain marks e raw plain none = rw plain (ap (value_read e) (plain_stays raw none))
 
 readable : (e : Elem) (raw : List ℕ) → is_text e ≡ false → has_none raw → IsSome (value_read e raw) → IsReadable (kind.One e) raw

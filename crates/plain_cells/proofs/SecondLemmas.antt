@@ -8,6 +8,7 @@ use Rattle.std.proofs.lemmas.List.Folds.{list_any-append}
 use Rattle.std.specs.List.{list_all, list_any, position_or_len, before_first, after_first}
 use Rattle.value_reading.specs.Numbers.{is_digit, number_behind, number_of, is_negative, without_sign, if_i64, is_point, fraction_of, nanoseconds_of, span_of}
 use Rattle.value_reading.proofs.NumberLemmas.{fraction_fits}
+use Rattle.plain_cells.specs.Seconds.{AreSeconds}
 use Rattle.plain_cells.proofs.DigitLemmas.{digit_bounds, digits_none, Reads, digits_read, ten_pow, no_sign}
 use Rattle.plain_cells.proofs.PartLemmas.{take-add}
 use Rattle.plain_cells.proofs.ReadableLemmas.{has_none}
@@ -59,7 +60,7 @@ record Whole (ds : List ℕ) : Type 0 where
   is : number_of ds ≡ Some number
   below : number < 9 * 10 ^ 9
 
-number_some : (ds : List ℕ) → 0 < length ds → number_of ds ≡ number_behind 0 ds
+pub number_some : (ds : List ℕ) → 0 < length ds → number_of ds ≡ number_behind 0 ds
 number_some [] some = absurd (omega arith)
 number_some (d ∷ ds) some = refl
 
@@ -101,6 +102,12 @@ part_of ds all few =
       below = fraction_fits read.number (length ds) (omega (arith, read.below)) few;
     }
 
+-- the nanoseconds of both parts
+pub nano_parts : (ds fs : List ℕ) (w p : ℕ) → list_all is_digit ds ≡ true → number_of ds ≡ Some w → fraction_of fs ≡ Some p → nanoseconds_of (ds ++ 46 ∷ fs) ≡ Some (w * 10 ^ 9 + p)
+nano_parts ds fs w p all whole part =
+    let none : list_any is_point ds ≡ false = no_point ds all in
+    rw (before-behind is_point ds 46 fs none refl, after-behind is_point ds 46 fs none refl, whole, part) refl
+
 seconds_some : (ds fs : List ℕ) → list_all is_digit ds ≡ true → 0 < length ds → length ds ≤ 10 → (length ds ≡ 10 → get_or ds 0 0 < 57)
     → list_all is_digit fs ≡ true → length fs ≤ 9 → IsSome (span_of (ds ++ 46 ∷ fs))
 seconds_some ds fs all some few first behind short =
@@ -108,9 +115,7 @@ seconds_some ds fs all some few first behind short =
     let part = part_of fs behind short in
     let sum : ℕ = whole.number * 10 ^ 9 + part.number in
     let sign = no_sign ds (46 ∷ fs) all some in
-    let none : list_any is_point ds ≡ false = no_point ds all in
-    let nano : nanoseconds_of (ds ++ 46 ∷ fs) ≡ Some sum =
-    rw (before-behind is_point ds 46 fs none refl, after-behind is_point ds 46 fs none refl, whole.is, part.is) refl in
+    let nano : nanoseconds_of (ds ++ 46 ∷ fs) ≡ Some sum = nano_parts ds fs whole.number part.number all whole.is part.is in
     let within : sum ≤ 2 ^ 63 - 1 = omega (arith, whole.below, part.below) in
     rw (sign.0, sign.1, nano, le-leb sum (2 ^ 63 - 1) within) refl
 
@@ -118,36 +123,36 @@ no_backslash : (ds fs : List ℕ) → list_all is_digit ds ≡ true → list_all
 no_backslash ds fs all behind =
     list_any-append (λ b. eqb b 92) ds (46 ∷ fs) ∙ or_from (list_any (λ b. eqb b 92) ds) (list_any (λ b. eqb b 92) (46 ∷ fs)) (digits_none 92 ds (omega arith) all) (digits_none 92 fs (omega arith) behind)
 
--- Digits, a point and digits, as they stand in a text.
-pub record Seconds (text : List ℕ) (whole count : ℕ) : Type 0 where
-  pub within : count ≤ length text
-  pub some : 0 < whole
-  pub few : whole ≤ 10
-  pub first : whole ≡ 10 → get_or text 0 0 < 57
-  pub digits : list_all is_digit (take whole text) ≡ true
-  pub more : whole < count
-  pub point : get_or text whole 0 ≡ 46
-  pub short : count - (whole + 1) ≤ 9
-  pub decimals : list_all is_digit (take (count - (whole + 1)) (drop (whole + 1) text)) ≡ true
-
 first_taken : (n : ℕ) (xs : List ℕ) → 0 < n → get_or (take n xs) 0 0 ≡ get_or xs 0 0
 first_taken zero xs some = absurd (omega arith)
 first_taken (suc n) [] some = refl
 first_taken (suc n) (x ∷ xs) some = refl
 
-pub seconds_read : (text : List ℕ) (whole count : ℕ) → Seconds text whole count → IsSome (span_of (take count text)) × has_none (take count text)
+-- both parts of seconds in a text
+pub record Parts (text : List ℕ) (whole count : ℕ) : Type 0 where
+  pub long : length (take whole text) ≡ whole
+  pub rest : length (take (count - (whole + 1)) (drop (whole + 1) text)) ≡ count - (whole + 1)
+  pub is : take count text ≡ take whole text ++ 46 ∷ take (count - (whole + 1)) (drop (whole + 1) text)
+
+pub seconds_parts : (text : List ℕ) (whole count : ℕ) → AreSeconds text whole count → Parts text whole count
+seconds_parts text whole count s =
+    let more : whole < count = s.more in
+    let within : count ≤ length text = s.within in
+    record {
+      long = length-take-le whole text (omega arith);
+      rest = length-take-le (count - (whole + 1)) (drop (whole + 1) text) (omega (arith, length-drop (whole + 1) text));
+      is = parted_front text whole count 46 more within s.point;
+    }
+
+pub seconds_read : (text : List ℕ) (whole count : ℕ) → AreSeconds text whole count → IsSome (span_of (take count text)) × has_none (take count text)
 seconds_read text whole count s =
     let ds : List ℕ = take whole text in
     let fs : List ℕ = take (count - (whole + 1)) (drop (whole + 1) text) in
-    let more : whole < count = s.more in
     let few : whole ≤ 10 = s.few in
     let short : count - (whole + 1) ≤ 9 = s.short in
-    let within : count ≤ length text = s.within in
-    let long : length ds ≡ whole = length-take-le whole text (omega arith) in
-    let rest : length fs ≡ count - (whole + 1) = length-take-le (count - (whole + 1)) (drop (whole + 1) text) (omega (arith, length-drop (whole + 1) text)) in
-    let parts : take count text ≡ ds ++ 46 ∷ fs = parted_front text whole count 46 more within s.point in
-    let some : 0 < length ds = omega (arith, long, s.some) in
-    let first : length ds ≡ 10 → get_or ds 0 0 < 57 = λ ten. subst (λ (b : ℕ). b < 57) (sym (first_taken whole text s.some)) (s.first (sym long ∙ ten)) in (
-      subst (λ (l : List ℕ). IsSome (span_of l)) (sym parts) (seconds_some ds fs s.digits some (omega (arith, long)) first s.decimals (omega (arith, rest))),
-      subst (λ (l : List ℕ). has_none l) (sym parts) (no_backslash ds fs s.digits s.decimals),
+    let parts = seconds_parts text whole count s in
+    let some : 0 < length ds = omega (arith, parts.long, s.some) in
+    let first : length ds ≡ 10 → get_or ds 0 0 < 57 = λ ten. subst (λ (b : ℕ). b < 57) (sym (first_taken whole text s.some)) (s.first (sym parts.long ∙ ten)) in (
+      subst (λ (l : List ℕ). IsSome (span_of l)) (sym parts.is) (seconds_some ds fs s.digits some (omega (arith, parts.long)) first s.decimals (omega (arith, parts.rest))),
+      subst (λ (l : List ℕ). has_none l) (sym parts.is) (no_backslash ds fs s.digits s.decimals),
     )

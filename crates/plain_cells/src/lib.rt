@@ -8,11 +8,13 @@
 mod bools;
 mod digits;
 mod dotted;
+mod own;
 mod places;
 mod seconds;
 
 pub use bools::is_plain_bool;
 pub use digits::{is_plain_count, is_plain_port};
 pub use dotted::is_plain_address;
+pub use own::is_own_number;
 pub use places::{byte_places, line_places};
-pub use seconds::is_plain_time;
+pub use seconds::{is_own_time, is_plain_time};

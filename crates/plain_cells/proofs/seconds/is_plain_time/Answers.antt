@@ -1,43 +1,14 @@
-use Rattle.std.proofs.Common.{◌≡◌, ◌+◌, ◌-◌, ◌<◌, ◌≤◌, ℕ, IsTrue, leb, true, List, take, drop, length, refl, subst, arith}
-use Rattle.std.specs.List.{list_all}
-use Rattle.std.proofs.lemmas.Bool.{leb-true}
-use Rattle.value_reading.specs.Numbers.{is_digit}
-use Rattle.plain_cells.proofs.DigitLemmas.{digits_led}
-use Rattle.plain_cells.proofs.SecondLemmas.{Seconds, seconds_read}
+use Rattle.std.proofs.Common.{take}
 use Rattle.plain_cells.proofs.ReadableLemmas.{time_readable, span_readable}
+use Rattle.plain_cells.proofs.SecondLemmas.{seconds_read}
 use Rattle.plain_cells.proofs.seconds.is_plain_time.Goals as goal
-
-seconds : (c : goal.After-leading_digits) → IsTrue (leb (c.args.count - (c.leading_digits-whole.result + 1)) c.leading_digits.result) → Seconds c.args.text.now c.leading_digits-whole.result c.args.count
-seconds c is =
-    let text = c.args.text.now in
-    let count = c.args.count in
-    let whole = c.leading_digits-whole in
-    let rest = c.split_at.result.1.now in
-    let room : 16 ≤ length text = omega (arith, c.requires) in
-    let low : whole.result ≤ 16 = whole.ensures.within in
-    let few : whole.result ≤ 10 = c.if-not-is_short_whole.ensures.few refl in
-    let back : 16 ≤ length rest = omega (arith, c.split_at.ensures.back_len, c.requires) in
-    let led = digits_led text whole.result whole.result room whole.ensures.value low (omega arith) in
-    let more : count - (whole.result + 1) ≤ c.leading_digits.result = leb-true _ _ is in
-    let behind = digits_led rest (count - (whole.result + 1)) c.leading_digits.result back c.leading_digits.ensures.value c.leading_digits.ensures.within more in
-    record {
-      within = omega (arith, c.if-count-whole-2.false, c.requires);
-      some = c.if-not-is_short_whole.ensures.some refl;
-      few = few;
-      first = c.if-not-is_short_whole.ensures.first refl;
-      digits = led.digits;
-      more = omega (arith, c.if-count-whole.false);
-      point = omega (arith, c.if-text-whole-ne46.false);
-      short = omega (arith, c.if-count-whole-2.false);
-      decimals = subst (λ (l : List ℕ). list_all is_digit (take (count - (whole.result + 1)) l) ≡ true) c.split_at.ensures.back behind.digits;
-    }
 
 pub returns-clause-time : goal.returns-clause-time
 returns-clause-time c is =
-    let read = seconds_read c.args.text.now c.leading_digits-whole.result c.args.count (seconds c is) in
+    let read = seconds_read c.args.text.now c.in-Some._whole c.args.count c.in-Some.ensures in
     time_readable (take c.args.count c.args.text.now) read.1 read.0
 
 pub returns-clause-span : goal.returns-clause-span
 returns-clause-span c is =
-    let read = seconds_read c.args.text.now c.leading_digits-whole.result c.args.count (seconds c is) in
+    let read = seconds_read c.args.text.now c.in-Some._whole c.args.count c.in-Some.ensures in
     span_readable (take c.args.count c.args.text.now) read.1 read.0
