@@ -3,6 +3,7 @@ pub mod DigitLemmas
 pub mod FrontLemmas
 pub mod LaneLemmas
 pub mod OctetLemmas
+pub mod OwnAddressLemmas
 pub mod OwnLemmas
 pub mod PartLemmas
 pub mod PlaceLemmas

@@ -8,7 +8,7 @@ use Rattle.std.specs.List.{list_all, list_any, slice_split, onto_first}
 use Rattle.std.specs.Option.{option_map, option_and_then, option_or, is_some}
 use Rattle.value_reading.specs.Addresses.{short_number, octets, dotted_of, address_of, mapped, grouped_of}
 use Rattle.value_reading.specs.Numbers.{is_digit, number_behind, number_up_to, is_point}
-use Rattle.plain_cells.specs.Octets.{IsOctet}
+use Rattle.plain_cells.specs.Octets.{IsOctet, AreOctets}
 use Rattle.plain_cells.proofs.DigitLemmas.{digit_bounds, digits_none, digits_read, ten_pow, few_within, number_within, AreDigits}
 use Rattle.plain_cells.proofs.ReadableLemmas.{has_none}
 use Rattle.plain_cells.proofs.SecondLemmas.{parted, no_point}
@@ -68,7 +68,7 @@ octets_some (Some a) (Some b) None d x y z w = z
 octets_some (Some a) (Some b) (Some c) None x y z w = w
 octets_some (Some a) (Some b) (Some c) (Some d) x y z w = refl
 
-abbrev four : List ℕ → List ℕ → List ℕ → List ℕ → List ℕ
+abbrev pub four : List ℕ → List ℕ → List ℕ → List ℕ → List ℕ
 four a b c d = a ++ 46 ∷ (b ++ 46 ∷ (c ++ 46 ∷ d))
 
 four_split : (a b c d : List ℕ) → list_all is_digit a ≡ true → list_all is_digit b ≡ true → list_all is_digit c ≡ true → list_all is_digit d ≡ true
@@ -87,27 +87,37 @@ no_backslash : (ds rest : List ℕ) → list_all is_digit ds ≡ true → has_no
 no_backslash ds rest all none =
     list_any-append (λ b. eqb b 92) ds (46 ∷ rest) ∙ or_from (list_any (λ b. eqb b 92) ds) (list_any (λ b. eqb b 92) (46 ∷ rest)) (digits_none 92 ds (omega arith) all) none
 
-pub dotted_read : (text : List ℕ) (a b c end : ℕ) → end ≤ length text → IsOctet text 0 a → get_or text a 0 ≡ 46 → IsOctet text (a + 1) b → get_or text b 0 ≡ 46
-    → IsOctet text (b + 1) c → get_or text c 0 ≡ 46 → IsOctet text (c + 1) end → IsSome (address_of (take end text)) × has_none (take end text)
-dotted_read text a b c end within first at_a second at_b third at_c last =
-    let w : List ℕ = take (a - 0) (drop 0 text) in
-    let x : List ℕ = take (b - (a + 1)) (drop (a + 1) text) in
-    let y : List ℕ = take (c - (b + 1)) (drop (b + 1) text) in
-    let z : List ℕ = take (end - (c + 1)) (drop (c + 1) text) in
-    let low_b : a + 1 < b = second.some in
-    let low_c : b + 1 < c = third.some in
-    let low_d : c + 1 < end = last.some in
+-- a part of a text
+abbrev pub part_of : List ℕ → ℕ → ℕ → List ℕ
+part_of text from to = take (to - from) (drop from text)
+
+pub dotted_parts : (text : List ℕ) (a b c end : ℕ) → AreOctets text a b c end → take end text ≡ four (part_of text 0 a) (part_of text (a + 1) b) (part_of text (b + 1) c) (part_of text (c + 1) end)
+dotted_parts text a b c end o =
+    let low_b : a + 1 < b = o.second.some in
+    let low_c : b + 1 < c = o.third.some in
+    let low_d : c + 1 < end = o.last.some in
     let all : end ≡ end - 0 = omega arith in
-    let parts : take end text ≡ four w x y z =
-    ap (λ (n : ℕ). take n text) all ∙ parted text 0 a end 46 (omega arith) (omega arith) within at_a
-    ∙ ap (λ (l : List ℕ). w ++ 46 ∷ l) (parted text (a + 1) b end 46 (omega arith) (omega arith) within at_b
-    ∙ ap (λ (l : List ℕ). x ++ 46 ∷ l) (parted text (b + 1) c end 46 (omega arith) (omega arith) within at_c)) in
-    let split : slice_split is_point (four w x y z) ≡ w ∷ (x ∷ (y ∷ (z ∷ []))) = four_split w x y z first.digits second.digits third.digits last.digits in
+    ap (λ (n : ℕ). take n text) all ∙ parted text 0 a end 46 (omega arith) (omega arith) o.within o.first_point
+    ∙ ap (λ (l : List ℕ). part_of text 0 a ++ 46 ∷ l) (parted text (a + 1) b end 46 (omega arith) (omega arith) o.within o.second_point
+    ∙ ap (λ (l : List ℕ). part_of text (a + 1) b ++ 46 ∷ l) (parted text (b + 1) c end 46 (omega arith) (omega arith) o.within o.third_point))
+
+pub dotted_split : (text : List ℕ) (a b c end : ℕ) → AreOctets text a b c end
+    → slice_split is_point (four (part_of text 0 a) (part_of text (a + 1) b) (part_of text (b + 1) c) (part_of text (c + 1) end)) ≡ part_of text 0 a ∷ (part_of text (a + 1) b ∷ (part_of text (b + 1) c ∷ (part_of text (c + 1) end ∷ [])))
+dotted_split text a b c end o =
+    four_split (part_of text 0 a) (part_of text (a + 1) b) (part_of text (b + 1) c) (part_of text (c + 1) end) o.first.digits o.second.digits o.third.digits o.last.digits
+
+pub dotted_read : (text : List ℕ) (a b c end : ℕ) → AreOctets text a b c end → IsSome (address_of (take end text)) × has_none (take end text)
+dotted_read text a b c end o =
+    let w : List ℕ = part_of text 0 a in
+    let x : List ℕ = part_of text (a + 1) b in
+    let y : List ℕ = part_of text (b + 1) c in
+    let z : List ℕ = part_of text (c + 1) end in
+    let parts : take end text ≡ four w x y z = dotted_parts text a b c end o in
     let some : IsSome (dotted_of (four w x y z)) =
-    ap (λ (l : List (List ℕ)). is_some (octets l)) split
-    ∙ octets_some (short_number 255 w) (short_number 255 x) (short_number 255 y) (short_number 255 z) first.number second.number third.number last.number in
+    ap (λ (l : List (List ℕ)). is_some (octets l)) (dotted_split text a b c end o)
+    ∙ octets_some (short_number 255 w) (short_number 255 x) (short_number 255 y) (short_number 255 z) o.first.number o.second.number o.third.number o.last.number in
     let none : has_none (four w x y z) =
-    no_backslash w (x ++ 46 ∷ (y ++ 46 ∷ z)) first.digits (no_backslash x (y ++ 46 ∷ z) second.digits (no_backslash y z third.digits (digits_none 92 z (omega arith) last.digits))) in (
+    no_backslash w (x ++ 46 ∷ (y ++ 46 ∷ z)) o.first.digits (no_backslash x (y ++ 46 ∷ z) o.second.digits (no_backslash y z o.third.digits (digits_none 92 z (omega arith) o.last.digits))) in (
       subst (λ (l : List ℕ). IsSome (address_of l)) (sym parts) (address_some (dotted_of (four w x y z)) (grouped_of (four w x y z)) some),
       subst (λ (l : List ℕ). has_none l) (sym parts) none,
     )

@@ -90,13 +90,13 @@ own_one e raw plain none own marks usual x is =
     (λ same. sym ((bytes_eq-Decides raw marks.unset).0 same ∙ usual.unset))
     (λ v read. own v (sym (set_plain marks e raw plain none) ∙ read)) is
 
-mapped_by : {X : Type 0} (f : X → Value) (o : Option X) (v : Value) (raw : List ℕ) → ((x : X) → o ≡ Some x → cell_text (cell.One (f x)) ≡ raw) → option_map f o ≡ Some v → cell_text (cell.One v) ≡ raw
+pub mapped_by : {X : Type 0} (f : X → Value) (o : Option X) (v : Value) (raw : List ℕ) → ((x : X) → o ≡ Some x → cell_text (cell.One (f x)) ≡ raw) → option_map f o ≡ Some v → cell_text (cell.One v) ≡ raw
 mapped_by f None v raw own is = absurd cc
 mapped_by f (Some x) v raw own is = let same : f x ≡ v = cc in subst (λ (y : Value). cell_text (cell.One y) ≡ raw) same (own x refl)
 
 -- Numbers
 
-up_to_number : (most : ℕ) (o : Option ℕ) (x : ℕ) → option_and_then (if_at_most most) o ≡ Some x → (o ≡ Some x) × (x ≤ most)
+pub up_to_number : (most : ℕ) (o : Option ℕ) (x : ℕ) → option_and_then (if_at_most most) o ≡ Some x → (o ≡ Some x) × (x ≤ most)
 up_to_number most None x is = absurd cc
 up_to_number most (Some y) x is =
     elim (cases_Bool (leb y most)) [
@@ -105,7 +105,7 @@ up_to_number most (Some y) x is =
     ]
 
 -- a number that was read of digits without a leading zero
-read_own : (most : ℕ) (ds : List ℕ) (x : ℕ) → most < 2 ^ 64 → list_all is_digit ds ≡ true → HasNoLeadingZero ds → number_up_to most ds ≡ Some x → decimal x ≡ ds
+pub read_own : (most : ℕ) (ds : List ℕ) (x : ℕ) → most < 2 ^ 64 → list_all is_digit ds ≡ true → HasNoLeadingZero ds → number_up_to most ds ≡ Some x → decimal x ≡ ds
 read_own most ds x few all lone is =
     let read = up_to_number most (number_of ds) x is in
     decimal-digits ds x all lone read.0 (omega (arith, read.1, few))

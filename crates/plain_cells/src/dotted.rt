@@ -1,9 +1,11 @@
 //! Addresses in the dotted form.
 ghost use Rattle.std.specs.Prelude.{◌≡◌, ◌+◌, ◌-◌, ◌*◌, ◌<◌, ◌≤◌, length, take, IsTrue, IfSome, slice_index};
-ghost use Rattle.plain_cells.specs.Octets.{IsOctet};
+ghost use Rattle.plain_cells.specs.Octets.{IsOctet, AreOctets};
+ghost use Rattle.plain_cells.specs.Own.{IsOwnText};
 ghost use Rattle.plain_cells.specs.Readable.{IsReadable};
 
 use crate::digits::leading_digits;
+use crate::own::has_no_leading_zero;
 use vast_value::{Elem, Kind};
 
 // Three digits of an octet of 255, as the sum of their bytes, each ten times the next.
@@ -55,23 +57,55 @@ fn point_behind(text: &[u8], at: usize) -> Option<usize>
     Some(end)
 }
 
+// Where the points are, where the first `count` bytes are four numbers of one to three digits, each at most 255, with
+// points between them.
+#[inline(always)]
+fn points(text: &[u8], count: usize) -> Option<(usize, usize, usize)>
+    requires { 32 ≤ length text.now }
+    ensures { IfSome result (λ p. AreOctets text.now p.0 p.1 p.2 count) }
+{
+    let a = point_behind(text, 0)?;
+    let b = point_behind(text, a + 1)?;
+    let c = point_behind(text, b + 1)?;
+    let end = octet_end(text, c + 1)?;
+    if end != count {
+        return None;
+    }
+    Some((a, b, c))
+}
+
 /// Whether the first `count` bytes are four numbers of one to three digits, each at most 255, with points between them.
 #[inline(always)]
 pub fn is_plain_address(text: &[u8], count: usize) -> bool
     requires { 32 ≤ length text.now }
     ensures { IsTrue result → IsReadable (Kind.One Elem.Addr) (take count text.now) }
 {
-    let Some(a) = point_behind(text, 0) else {
+    let Some((_a, _b, _c)) = points(text, count) else {
         return false;
     };
-    let Some(b) = point_behind(text, a + 1) else {
+    true
+}
+
+/// Whether the first `count` bytes are such numbers without a leading zero, as which an address of IPv4 is written.
+#[inline(always)]
+pub fn is_own_address(text: &[u8], count: usize) -> bool
+    requires { 32 ≤ length text.now }
+    ensures { IsTrue result → IsOwnText (Kind.One Elem.Addr) (take count text.now) }
+{
+    let Some((a, b, c)) = points(text, count) else {
         return false;
     };
-    let Some(c) = point_behind(text, b + 1) else {
+    let (_, second) = text.split_at(a + 1);
+    let (_, third) = text.split_at(b + 1);
+    let (_, last) = text.split_at(c + 1);
+    if !has_no_leading_zero(text, a) {
         return false;
-    };
-    let Some(end) = octet_end(text, c + 1) else {
+    }
+    if !has_no_leading_zero(second, b - (a + 1)) {
         return false;
-    };
-    end == count
+    }
+    if !has_no_leading_zero(third, c - (b + 1)) {
+        return false;
+    }
+    has_no_leading_zero(last, count - (c + 1))
 }

@@ -14,7 +14,7 @@ mod seconds;
 
 pub use bools::is_plain_bool;
 pub use digits::{is_plain_count, is_plain_port};
-pub use dotted::is_plain_address;
+pub use dotted::{is_own_address, is_plain_address};
 pub use own::is_own_number;
 pub use places::{byte_places, line_places};
 pub use seconds::{is_own_time, is_plain_time};
