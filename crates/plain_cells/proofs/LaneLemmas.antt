@@ -1,10 +1,12 @@
 -- From the lanes of one load to its bytes.
-use Rattle.std.proofs.Common.{◌≡◌, ℕ, zero, suc, ◌+◌, ◌-◌, ◌%◌, ◌^◌, ◌<◌, ◌≤◌, eqb, Bool, true, false, not, cond, List, [], ◌∷◌, map, length, get_or, take, replicate, Fits, w8, refl, sym, ap, ap₂, ◌∙◌, subst, arith, inl, inr}
-use Rattle.std.proofs.lemmas.Bool.{agree_below, agree_below_at, cases_Bool, and_parts}
+use Rattle.std.proofs.Common.{◌≡◌, ℕ, zero, suc, ◌+◌, ◌-◌, ◌%◌, ◌^◌, ◌<◌, ◌≤◌, eqb, Bool, true, false, not, cond, List, [], ◌∷◌, map, length, get_or, take, drop, replicate, Fits, w8, refl, sym, ap, ap₂, ◌∙◌, subst, arith, inl, inr}
+use Rattle.std.proofs.lemmas.Bool.{agree_below, agree_below_at, cases_Bool, and_parts, and_from}
+use Rattle.std.proofs.lemmas.List.Folds.{list_all-append}
 use Rattle.std.proofs.lemmas.Simd.{map-map, mask_l-mod, length-chunk, first_set_mask_l}
 use Rattle.std.proofs.lemmas.List.{length-map}
 use Rattle.std.specs.List.{prefix_len, list_all}
 use lib.Count.{count_trailing_zeros}
+use Rattle.plain_cells.proofs.PartLemmas.{take-add}
 use lib.Lanes.{zip2, mask_l, top, Each1}
 
 -- what agrees on each byte agrees on bytes
@@ -52,3 +54,18 @@ all_before p (suc n) (suc k) (x ∷ xs) low =
       | inl passes ↦ let less : suc k ≤ 1 + prefix_len p (take n xs) = rw passes at low in rw (passes, all_before p n k xs (omega arith)) refl
       | inr fails ↦ let less : suc k ≤ 0 = rw fails at low in absurd (omega arith)
     ]
+
+-- What is known of more bytes is known of fewer.
+pub all_fewer : (p : ℕ → Bool) (a b : ℕ) (xs : List ℕ) → a ≤ b → list_all p (take b xs) ≡ true → list_all p (take a xs) ≡ true
+all_fewer p zero b xs low all = refl
+all_fewer p (suc a) zero xs low all = absurd (omega arith)
+all_fewer p (suc a) (suc b) [] low all = refl
+all_fewer p (suc a) (suc b) (x ∷ xs) low all =
+    let both = and_parts (p x) (list_all p (take b xs)) all in
+    rw (both.0, all_fewer p a b xs (omega arith) both.1) refl
+
+-- the bytes of a load behind those before it
+pub all_more : (p : ℕ → Bool) (at k : ℕ) (text rest : List ℕ) → rest ≡ drop at text → list_all p (take at text) ≡ true → k ≤ prefix_len p (take 16 rest) → list_all p (take (at + k) text) ≡ true
+all_more p at k text rest back before low =
+    ap (list_all p) (take-add at k text) ∙ list_all-append p (take at text) (take k (drop at text))
+    ∙ and_from (list_all p (take at text)) (list_all p (take k (drop at text))) before (ap (λ (l : List ℕ). list_all p (take k l)) (sym back) ∙ all_before p 16 k rest low)

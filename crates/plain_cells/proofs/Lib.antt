@@ -5,6 +5,7 @@ pub mod LaneLemmas
 pub mod OctetLemmas
 pub mod OwnAddressLemmas
 pub mod OwnLemmas
+pub mod OwnTextLemmas
 pub mod PartLemmas
 pub mod PlaceLemmas
 pub mod ReadableLemmas

@@ -76,19 +76,19 @@ decimal-digits (d ∷ ds) m all lone is small =
 
 -- Cells
 
-own_by : (t : Bool) (o : Option Value) (x : Cell) (raw : List ℕ) → (t ≡ true → codes "-" ≡ raw) → ((v : Value) → o ≡ Some v → cell_text (cell.One v) ≡ raw)
+pub own_by : (t : Bool) (o : Option Value) (x : Cell) (raw : List ℕ) → (t ≡ true → codes "-" ≡ raw) → (t ≡ false → (v : Value) → o ≡ Some v → cell_text (cell.One v) ≡ raw)
     → cond t (Some cell.Unset) (option_map cell.One o) ≡ Some x → cell_text x ≡ raw
 unfolding cell_text
 own_by true o x raw unset one is = let same : cell.Unset ≡ x = cc in subst (λ (y : Cell). cell_text y ≡ raw) same (unset refl)
 own_by false None x raw unset one is = absurd cc
-own_by false (Some v) x raw unset one is = let same : cell.One v ≡ x = cc in subst (λ (y : Cell). cell_text y ≡ raw) same (one v refl)
+own_by false (Some v) x raw unset one is = let same : cell.One v ≡ x = cc in subst (λ (y : Cell). cell_text y ≡ raw) same (one refl v refl)
 
 pub own_one : (e : Elem) (raw : List ℕ) → is_text e ≡ false → has_none raw → ((v : Value) → value_read e raw ≡ Some v → cell_text (cell.One v) ≡ raw) → IsOwnText (kind.One e) raw
 unfolding cell_read
 own_one e raw plain none own marks usual x is =
     own_by (bytes_eq raw marks.unset) (set_read marks e raw) x raw
     (λ same. sym ((bytes_eq-Decides raw marks.unset).0 same ∙ usual.unset))
-    (λ v read. own v (sym (set_plain marks e raw plain none) ∙ read)) is
+    (λ set v read. own v (sym (set_plain marks e raw plain none) ∙ read)) is
 
 pub mapped_by : {X : Type 0} (f : X → Value) (o : Option X) (v : Value) (raw : List ℕ) → ((x : X) → o ≡ Some x → cell_text (cell.One (f x)) ≡ raw) → option_map f o ≡ Some v → cell_text (cell.One v) ≡ raw
 mapped_by f None v raw own is = absurd cc

@@ -11,6 +11,7 @@ mod dotted;
 mod own;
 mod places;
 mod seconds;
+mod texts;
 
 pub use bools::is_plain_bool;
 pub use digits::{is_plain_count, is_plain_port};
@@ -18,3 +19,4 @@ pub use dotted::{is_own_address, is_plain_address};
 pub use own::is_own_number;
 pub use places::{byte_places, line_places};
 pub use seconds::{is_own_time, is_plain_time};
+pub use texts::is_own_text;
