@@ -1,0 +1,28 @@
+use Rattle.std.proofs.Common.{◌≡◌, ◌≤◌, ℕ, not, cond, eqb, take, sym, ap, ◌∙◌, arith}
+use Rattle.std.proofs.lemmas.Bool.{eq-eqb, ne_eqb, cond-true, cond-false}
+use Rattle.std.proofs.lemmas.List.Sums.{prefix_len-le-length}
+use Rattle.std.proofs.lemmas.Simd.{length-chunk}
+use Rattle.std.specs.List.{prefix_len}
+use Rattle.value_reading.specs.Numbers.{is_digit}
+use Rattle.plain_cells.proofs.LaneLemmas.{first_other}
+use Rattle.plain_cells.proofs.digits.leading_digits.Goals as goal
+
+pub returns-then-others-eq0-clause-value : goal.returns-then-others-eq0-clause-value
+returns-then-others-eq0-clause-value c =
+    let v = take 16 c.args.text.now in
+    let long = length-chunk 0 16 c.args.text.now c.requires in
+    let m = c.other_marks-others.result in
+    sym (cond-true (eqb m 0) 16 _ (eq-eqb m 0 c.if-others-eq0.true)) ∙ first_other is_digit v 16 m long (omega arith) c.other_marks-others.ensures
+
+pub returns-else-others-eq0-clause-value : goal.returns-else-others-eq0-clause-value
+returns-else-others-eq0-clause-value c =
+    let v = take 16 c.args.text.now in
+    let long = length-chunk 0 16 c.args.text.now c.requires in
+    let m = c.other_marks-others.result in
+    sym (cond-false (eqb m 0) 16 _ (ne_eqb m 0 c.if-others-eq0.false)) ∙ first_other is_digit v 16 m long (omega arith) c.other_marks-others.ensures
+
+pub returns-else-others-eq0-clause-within : goal.returns-else-others-eq0-clause-within
+returns-else-others-eq0-clause-within c =
+    let v = take 16 c.args.text.now in
+    let long = length-chunk 0 16 c.args.text.now c.requires in
+    omega (arith, long, returns-else-others-eq0-clause-value c, prefix_len-le-length is_digit v)

@@ -1,0 +1,5 @@
+pub mod Octets
+pub mod Own
+pub mod Places
+pub mod Readable
+pub mod Seconds

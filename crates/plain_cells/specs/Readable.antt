@@ -1,0 +1,9 @@
+-- Cells that can be read.
+use Rattle.std.specs.Prelude.{ℕ, List, IsSome}
+use Rattle.vast_value.specs.declared.kind.Kind.{Kind}
+use Rattle.value_reading.specs.declared.marks.Marks.{Marks}
+use Rattle.value_reading.specs.Reading.{cell_read}
+
+-- Raw bytes that read as a cell of the kind, whatever the marks are.
+abbrev pub IsReadable : Kind → List ℕ → Type 0
+IsReadable kind raw = (marks : Marks) → IsSome (cell_read marks kind raw)

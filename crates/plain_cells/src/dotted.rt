@@ -1,0 +1,111 @@
+//! Addresses in the dotted form.
+ghost use Rattle.std.specs.Prelude.{◌≡◌, ◌+◌, ◌-◌, ◌*◌, ◌<◌, ◌≤◌, length, take, IsTrue, IfSome, slice_index};
+ghost use Rattle.plain_cells.specs.Octets.{IsOctet, AreOctets};
+ghost use Rattle.plain_cells.specs.Own.{IsOwnText};
+ghost use Rattle.plain_cells.specs.Readable.{IsReadable};
+
+use crate::digits::leading_digits;
+use crate::own::has_no_leading_zero;
+use vast_value::{Elem, Kind};
+
+// Three digits of an octet of 255, as the sum of their bytes, each ten times the next.
+const HIGHEST_OCTET: u32 = 255 + 48 * 111;
+
+// Whether so many digits are one to three of a number of at most 255.
+#[inline(always)]
+fn is_octet(text: &[u8], count: usize) -> bool
+    requires { 3 ≤ length text.now }
+    ensures some { IsTrue result → 0 < count }
+    ensures few { IsTrue result → count ≤ 3 }
+    ensures low { IsTrue result → count ≡ 3 → (slice_index text.now 0 * 10 + slice_index text.now 1) * 10 + slice_index text.now 2 ≤ 5583 }
+{
+    let sum = (text[0] as u32 * 10 + text[1] as u32) * 10 + text[2] as u32;
+    if count == 0 || count > 3 {
+        return false;
+    }
+    if count < 3 {
+        return true;
+    }
+    sum <= HIGHEST_OCTET
+}
+
+// Where an octet ends that begins at `at`.
+#[inline(always)]
+fn octet_end(text: &[u8], at: usize) -> Option<usize>
+    requires { at + 16 ≤ length text.now }
+    ensures { IfSome result (λ end. IsOctet text.now at end) }
+{
+    let (_, rest) = text.split_at(at);
+    let count = leading_digits(rest);
+    if !is_octet(rest, count) {
+        return None;
+    }
+    Some(at + count)
+}
+
+// Where the point behind an octet is that begins at `at`.
+#[inline(always)]
+fn point_behind(text: &[u8], at: usize) -> Option<usize>
+    requires { at + 16 ≤ length text.now }
+    ensures octet { IfSome result (λ end. IsOctet text.now at end) }
+    ensures point { IfSome result (λ end. slice_index text.now end ≡ 46) }
+{
+    let end = octet_end(text, at)?;
+    if text[end] != b'.' {
+        return None;
+    }
+    Some(end)
+}
+
+// Where the points are, where the first `count` bytes are four numbers of one to three digits, each at most 255, with
+// points between them.
+#[inline(always)]
+fn points(text: &[u8], count: usize) -> Option<(usize, usize, usize)>
+    requires { 32 ≤ length text.now }
+    ensures { IfSome result (λ p. AreOctets text.now p.0 p.1 p.2 count) }
+{
+    let a = point_behind(text, 0)?;
+    let b = point_behind(text, a + 1)?;
+    let c = point_behind(text, b + 1)?;
+    let end = octet_end(text, c + 1)?;
+    if end != count {
+        return None;
+    }
+    Some((a, b, c))
+}
+
+/// Whether the first `count` bytes are four numbers of one to three digits, each at most 255, with points between them.
+#[inline(always)]
+pub fn is_plain_address(text: &[u8], count: usize) -> bool
+    requires { 32 ≤ length text.now }
+    ensures { IsTrue result → IsReadable (Kind.One Elem.Addr) (take count text.now) }
+{
+    let Some((_a, _b, _c)) = points(text, count) else {
+        return false;
+    };
+    true
+}
+
+/// Whether the first `count` bytes are such numbers without a leading zero, as which an address of IPv4 is written.
+#[inline(always)]
+pub fn is_own_address(text: &[u8], count: usize) -> bool
+    requires { 32 ≤ length text.now }
+    ensures { IsTrue result → IsOwnText (Kind.One Elem.Addr) (take count text.now) }
+{
+    let Some((a, b, c)) = points(text, count) else {
+        return false;
+    };
+    let (_, second) = text.split_at(a + 1);
+    let (_, third) = text.split_at(b + 1);
+    let (_, last) = text.split_at(c + 1);
+    if !has_no_leading_zero(text, a) {
+        return false;
+    }
+    if !has_no_leading_zero(second, b - (a + 1)) {
+        return false;
+    }
+    if !has_no_leading_zero(third, c - (b + 1)) {
+        return false;
+    }
+    has_no_leading_zero(last, count - (c + 1))
+}
