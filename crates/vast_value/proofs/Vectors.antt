@@ -1,24 +1,22 @@
 -- Values that the definitions have, computed by the prover. Each is false where its definition is wrong.
-use Rattle.std.proofs.Common.{◌≡◌, ℕ, pos, negsuc, Bool, true, false, List, [], ◌∷◌, Option, None, Some, is_some, option_map, map, filter, length, nat_le, codes, refl, lit≤}
+use Rattle.std.proofs.Common.{◌≡◌, ℕ, pos, negsuc, true, false, List, [], ◌∷◌, None, Some, is_some, option_map, map, filter, length, nat_le, codes, refl, lit≤}
 use Rattle.std.specs.declared.cmp.Ordering.TheVariants.{Less, Equal, Greater}
 use Rattle.vast_value.specs.declared.kind.Elem.{Elem}
 use Rattle.vast_value.specs.declared.kind.Elem.TheVariants as elem
 use Rattle.vast_value.specs.declared.kind.Kind.TheVariants as kind
-use Rattle.vast_value.specs.declared.value.Value.{Value}
 use Rattle.vast_value.specs.declared.value.Value.TheVariants as value
 use Rattle.vast_value.specs.declared.cell.Cell.TheVariants as cell
 use Rattle.vast_value.specs.declared.transport.Transport.TheVariants.{Unknown, Tcp, Udp, Icmp}
-use Rattle.vast_value.specs.declared.layout.BadLayout.{BadLayout}
 use Rattle.vast_value.specs.declared.layout.BadLayout.TheVariants.{EmptyPath, NoColumns, TooManyColumns, EmptyName, SameName}
-use Rattle.vast_value.specs.Fit.{is_byte, is_i64, most_parts, is_ranged, is_ranged_element, is_ranged_cell, is_sized, is_short, is_bounded, is_bounded_element, is_small}
-use Rattle.vast_value.specs.Headings.{Field, fits_field, fits_fields, field_fault, fields_fault, heading_fault}
-use Rattle.vast_value.specs.Kinds.{elem_named, elem_name, elem_eq, elem_of, short_elems, is_element, is_lone_unset, are_elements, has_kind}
+use Rattle.vast_value.specs.Fit.{is_byte, is_i64, most_parts, is_ranged, is_ranged_element, is_ranged_cell}
+use Rattle.vast_value.specs.Headings.{Field, fits_field, fits_fields, heading_fault}
+use Rattle.vast_value.specs.Kinds.{elem_named, elem_name, elem_eq, elem_of, short_elems, is_element, has_kind}
 use Rattle.vast_value.specs.Layouts.{is_empty, most_columns, name_fault}
 use Rattle.vast_value.specs.declared.net.Net.{Net}
 use Rattle.vast_value.specs.Nets.{net_by, net_of}
 use Rattle.vast_value.specs.Ports.{transport_code, transport_coded, transport_eq}
 use Rattle.vast_value.specs.Values.{order_of}
-use Rattle.vast_value.specs.ValueBytes.{number, text, value_bytes}
+use Rattle.vast_value.specs.ValueBytes.{number, value_bytes}
 
 -- Ranges: the last number of each type, and the first beyond it.
 
