@@ -1,11 +1,9 @@
 -- Values that the definitions have, computed by the prover. Each is false where its definition is wrong.
-use Rattle.std.proofs.Common.{◌≡◌, ℕ, pos, negsuc, Bool, true, false, List, [], ◌∷◌, Option, None, Some, map, filter, filter_map, codes, refl}
+use Rattle.std.proofs.Common.{◌≡◌, ℕ, pos, negsuc, true, false, List, [], ◌∷◌, Option, None, Some, map, filter, filter_map, codes, refl}
 use Rattle.std.specs.Option.{option_map}
 use Rattle.vast_value.specs.declared.kind.Elem.TheVariants as elem
 use Rattle.vast_value.specs.declared.kind.Kind.TheVariants as kind
-use Rattle.vast_value.specs.declared.value.Value.{Value}
 use Rattle.vast_value.specs.declared.value.Value.TheVariants as value
-use Rattle.vast_value.specs.declared.cell.Cell.{Cell}
 use Rattle.vast_value.specs.declared.cell.Cell.TheVariants as cell
 use Rattle.vast_value.specs.declared.net.Net.{Net}
 use Rattle.vast_value.specs.declared.transport.Transport.TheVariants.{Unknown, Tcp, Udp, Icmp}
