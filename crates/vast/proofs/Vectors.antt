@@ -1,5 +1,5 @@
 -- Values that the definitions have, computed by the prover. Each is false where its definition is wrong.
-use Rattle.std.proofs.Common.{◌≡◌, ◌≢◌, ℕ, ◌+◌, ◌-◌, ◌^◌, ◌<◌, Bool, true, false, List, [], ◌∷◌, ◌++◌, Option, None, Some, Result, Ok, Err, ◌⊎◌, ◌↔◌, IfSome, IsSomeAnd, length, codes, map, refl, ap, sym, subst, inl, inr, arith, lit≤}
+use Rattle.std.proofs.Common.{◌≡◌, ◌≢◌, ℕ, ◌+◌, ◌-◌, ◌^◌, ◌<◌, true, false, List, [], ◌∷◌, ◌++◌, Option, None, Some, Result, Ok, Err, ◌⊎◌, ◌↔◌, IfSome, IsSomeAnd, length, codes, map, refl, ap, sym, subst, inl, inr, arith, lit≤}
 use Rattle.std.proofs.lemmas.List.{append-nil}
 use Rattle.std.specs.Fmt.{digits}
 use Rattle.std.specs.Io.KnownBytes.{append_known}
@@ -25,7 +25,7 @@ use Rattle.query_parse.specs.declared.fault.QueryWhat.TheVariants as query
 use Rattle.zeek_log.specs.declared.fault.ZeekFault.TheVariants as fault
 use Rattle.zeek_log.specs.declared.step.ZeekEnd.{ZeekEnd}
 use Rattle.zeek_log.specs.declared.step.ZeekEnd.TheVariants.{Done, Fault, ReadFault, TooLong}
-use Rattle.zeek_log.specs.Table.{LogStep, Head, Line}
+use Rattle.zeek_log.specs.Table.{Head, Line}
 use Rattle.vast.specs.declared.status.Status.TheVariants as status
 use Rattle.vast.specs.Numbers.{number_of}
 use Rattle.vast.specs.Texts.{line, fault_name, fault_text, end_text, Event, events_behind, no_heading, events_of, row_text, matches_text, scan_end, scan_text, Part, rows_first, parts_of, part_text, check_end, check_text, usage_line, open_line, query_fault_name, refused_line}
