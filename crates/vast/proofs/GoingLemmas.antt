@@ -9,8 +9,6 @@ use Rattle.vast_io.specs.Told.{WritesPart, IsAtEnd}
 use Rattle.vast_io.proofs.Reading.{prepend_behind}
 use Rattle.vast_io.proofs.Writing.{part_all, part_none, part_behind, part_longer, append_known-append, append_known-nil}
 use Rattle.vast_value.specs.Headings.{Heading}
-use Rattle.zeek_log.specs.declared.step.Step.{Step}
-use Rattle.zeek_log.specs.declared.step.Step.TheVariants as step
 use Rattle.zeek_log.specs.declared.fault.ZeekFault.{ZeekFault}
 use Rattle.zeek_log.specs.declared.step.ZeekEnd.{ZeekEnd}
 use Rattle.zeek_log.specs.declared.step.ZeekEnd.TheVariants as end
@@ -18,8 +16,8 @@ use Rattle.zeek_log.specs.Heads.{Told, opening}
 use Rattle.source_block.specs.declared.stop.Stop.{Stop}
 use Rattle.source_block.specs.declared.stop.Stop.TheVariants.{AtEnd, Failed, AtBound}
 use Rattle.zeek_log.specs.Reader.{State, Reads, Last, Ended, Reading, to_come, come_from, IsMet, MayFollow, IsMetAtLast, StepsOn, EndsAnyway, EndsThere, EndsAs, Closes, Follows, CountsBy, CountsOf, heading_told, StepFits}
-use Rattle.zeek_log.specs.Steps.{Steps, ended, first, step_of, steps_of, steps_of_source, taken_steps}
-use Rattle.zeek_log.specs.Table.{LogStep}
+use Rattle.zeek_log.specs.Steps.{Steps, ended, first, steps_of, steps_of_source, taken_steps}
+use Rattle.zeek_log.specs.Table.{LogStep, Head, Line}
 use Rattle.source_block.specs.Holding.{most_bytes}
 use Rattle.vast.specs.declared.status.Status.{Status}
 use Rattle.vast.specs.declared.status.Status.TheVariants as status
@@ -105,21 +103,21 @@ going_start whole held reader left before is empty =
     (subst (GoingFrom whole left before) (sym is) fresh)
 
 -- a step comes where lines come, and anything may follow there
-pub follows_step : (st : State) (old new : Reading) (left now : Option (List ℕ)) (x : Step) → Follows st old new left now (Ok x) → StepsOn old new left now x
+pub follows_step : (st : State) (old new : Reading) (left now : Option (List ℕ)) (x : LogStep) → Follows st old new left now (Ok x) → StepsOn old new left now x
 follows_step (Reads told n) old new left now x follows = follows
 follows_step (Last told) old new left now x follows = let no = follows.0 in cc
 follows_step (Ended e) old new left now x follows = let no = follows.0 in cc
 
-anything_follows : (st : State) (old new : Reading) (left now : Option (List ℕ)) (x : Step) → Follows st old new left now (Ok x)
+anything_follows : (st : State) (old new : Reading) (left now : Option (List ℕ)) (x : LogStep) → Follows st old new left now (Ok x)
     → (more : List ℕ) (stop : Stop) → MayFollow st more stop
 anything_follows (Reads told n) old new left now x follows more stop = tt
 anything_follows (Last told) old new left now x follows more stop = let no = follows.0 in cc
 anything_follows (Ended e) old new left now x follows more stop = tt
 
 -- the reader gave a step, which is not told yet
-pub going_next : (whole behind : Steps → List ℕ) (held : List ℕ) (old new : Reading) (left mid now before written : Option (List ℕ)) (x : Step)
+pub going_next : (whole behind : Steps → List ℕ) (held : List ℕ) (old new : Reading) (left mid now before written : Option (List ℕ)) (x : LogStep)
     → Going whole behind held old left mid before written → Follows old.state old new mid now (Ok x)
-    → Going whole (λ rest. behind (first (step_of x) rest)) held new left now before written
+    → Going whole (λ rest. behind (first x rest)) held new left now before written
 going_next whole behind held old new left mid now before written x so follows =
     let on : StepsOn old new mid now x = follows_step old.state old new mid now x follows in
     let any : (more : List ℕ) (stop : Stop) → MayFollow old.state more stop = anything_follows old.state old new mid now x follows in
@@ -405,7 +403,7 @@ false_true : false ≡ true → ⊥
 false_true same = cc
 
 abbrev Answered : Type 0
-Answered = Result Step ZeekEnd
+Answered = Result LogStep ZeekEnd
 
 end_in : ZeekEnd → Answered → ZeekEnd
 end_in other (Ok step) = other
@@ -614,24 +612,31 @@ cut_leaves _ left cut = absurd cut
 -- ---- what fits
 
 -- a step that fits the reader's heading fits the report's, and the headings go on together
-pub step_fits : (before now : Option Heading) (x : Step) → StepFits before now x → FitsLast before x
-step_fits before now (step.Head layout) fits = tt
-step_fits None now (step.Line row) fits = absurd fits.0
-step_fits (Some heading) now (step.Line row) fits = fits.0
+pub step_fits : (before now : Option Heading) (x : LogStep) → StepFits before now x → FitsLast before x
+step_fits before now (Head next) fits = tt
+step_fits None now (Line row) fits = absurd fits.0
+step_fits (Some heading) now (Line row) fits = fits.0
 
-pub heading_goes : (before now : Option Heading) (x : Step) → StepFits before now x → heading_after before (step_of x) ≡ now
-heading_goes before now (step.Head layout) fits = sym fits
-heading_goes before now (step.Line row) fits = sym fits.1
+pub heading_goes : (before now : Option Heading) (x : LogStep) → StepFits before now x → heading_after before x ≡ now
+heading_goes before now (Head next) fits = sym fits
+heading_goes before now (Line row) fits = sym fits.1
 
-pub open_by : (st : State) (before : Option Heading) (x : Step) → StepFits before (heading_told st) x → is_open st ≡ true
+pub open_by : (st : State) (before : Option Heading) (x : LogStep) → StepFits before (heading_told st) x → is_open st ≡ true
 open_by (Reads told n) before x fits = refl
 open_by (Last told) before x fits = refl
-open_by (Ended e) before (step.Head layout) fits = cc
-open_by (Ended e) None (step.Line row) fits = absurd fits.0
-open_by (Ended e) (Some heading) (step.Line row) fits = let no = fits.1 in cc
+open_by (Ended e) before (Head next) fits = cc
+open_by (Ended e) None (Line row) fits = absurd fits.0
+open_by (Ended e) (Some heading) (Line row) fits = let no = fits.1 in cc
 
 -- no read failed where a step came
-pub step_kept : (st : State) (x : Step) (f g : ℕ) → CountsOf st (Ok x) f g → g ≡ f
+pub step_kept : (st : State) (x : LogStep) (f g : ℕ) → CountsOf st (Ok x) f g → g ≡ f
 step_kept (Reads told n) x f g counts = counts
 step_kept (Last told) x f g counts = counts
 step_kept (Ended e) x f g counts = counts
+
+-- a read failed where that is the end
+pub rose_at : (st : State) (old new : Reading) (mid left_now : Option (List ℕ)) (e : ZeekEnd) (f g : ℕ) → is_open st ≡ true → Follows st old new mid left_now (Err e)
+    → CountsOf st (Err e) f g → e ≡ end.ReadFault → Rose f g
+rose_at (Ended last) old new mid left_now e f g is_opened follows counts read = absurd (false_true is_opened)
+rose_at (Last told) old new mid left_now e f g is_opened follows counts read = let done : e ≡ end.Done = err_is e end.Done follows.0 in let no = sym read ∙ done in cc
+rose_at (Reads told n) old new mid left_now e f g is_opened follows counts read = subst (λ (x : ZeekEnd). CountsBy (Err x) f g) read counts

@@ -13,6 +13,7 @@ use Rattle.vast_io.specs.Causes.{Rose}
 use Rattle.vast_io.specs.Told.{WritesPart, IsAtEnd}
 use Rattle.vast_io.proofs.Writing.{part_all}
 use Rattle.vast_value.specs.declared.cell.Cell.{Cell}
+use Rattle.zeek_log.specs.Reader.{heading_or_none}
 use Rattle.zeek_log.specs.Steps.{Steps, steps_of, steps_of_source}
 use Rattle.vast.specs.declared.status.Status.{Status}
 use Rattle.vast.specs.Causes.{IsFault, TellsText, Tells, TellsOf, TellsSome, ReadsWell, LeavesNothing, Exactly, Says, IsRefusal, IsRefused, Outside, Rest, Outcome, outside, rest_of, outcome, Writes, Stands, StandsBy, SaysRefused, SaysQuery, SaysEarly, bytes_for, TellsFile, TellsScan, TellsCommand, WasOpened, IsOfCommand, Does, IsExpr, IsSound, IsWhole, IsDone, Completes}
@@ -28,7 +29,7 @@ use Rattle.zeek_log.specs.declared.step.ZeekEnd.TheVariants.{Done, Fault, ReadFa
 use Rattle.zeek_log.specs.Table.{Head, Line}
 use Rattle.vast.specs.declared.status.Status.TheVariants as status
 use Rattle.vast.specs.Numbers.{number_of}
-use Rattle.vast.specs.Texts.{line, fault_name, fault_text, end_text, Event, events_behind, no_heading, events_of, row_text, matches_text, scan_end, scan_text, Part, rows_first, parts_of, part_text, check_end, check_text, usage_line, open_line, query_fault_name, refused_line}
+use Rattle.vast.specs.Texts.{line, fault_name, fault_text, end_text, Event, events_behind, events_of, row_text, matches_text, scan_end, scan_text, Part, rows_first, parts_of, part_text, check_end, check_text, usage_line, open_line, query_fault_name, refused_line}
 use Rattle.vast.specs.Words.{Wanted, Scan, Check, scan_words, check_words, command_of, file_of}
 
 abbrev heading : Heading
@@ -93,7 +94,7 @@ events_are_headings_and_cells e = refl
 parts_are_headings_and_rows : (p : Part) → p ≡ part p.heading p.rows
 parts_are_headings_and_rows p = refl
 
-rows_before_a_head_have_no_path_and_no_columns : (no_heading.path ≡ []) × (no_heading.fields ≡ [])
+rows_before_a_head_have_no_path_and_no_columns : ((heading_or_none None).path ≡ []) × ((heading_or_none None).fields ≡ [])
 rows_before_a_head_have_no_path_and_no_columns = (refl, refl)
 
 a_head_changes_the_rows_behind_it : events_behind heading (Line (Unset ∷ []) ∷ (Head pair ∷ (Line [] ∷ []))) ≡ event heading (Unset ∷ []) ∷ (event pair [] ∷ [])

@@ -5,21 +5,20 @@ use Rattle.vast_value.specs.declared.cell.Cell.{Cell}
 use Rattle.query_meaning.specs.Meaning.{holds}
 use Rattle.vast_value.specs.Headings.{Heading, fits_fields}
 use Rattle.query_meaning.specs.declared.expr.Expr.{Expr}
-use Rattle.zeek_log.specs.declared.step.Step.{Step}
-use Rattle.zeek_log.specs.declared.step.Step.TheVariants as step
+use Rattle.zeek_log.specs.Reader.{heading_or_none}
 use Rattle.zeek_log.specs.Steps.{Steps, first}
 use Rattle.zeek_log.specs.Table.{LogStep, Head, Line}
 use Rattle.vast.specs.declared.report.WriteEnd.{WriteEnd}
 use Rattle.vast.specs.declared.report.WriteEnd.TheVariants as write
 use Rattle.vast.specs.declared.status.Status.{Status}
 use Rattle.vast.specs.declared.status.Status.TheVariants as status
-use Rattle.vast.specs.Texts.{events_behind, row_text, no_heading, matches_text, scan_end, line, part_text, rows_first, check_text}
+use Rattle.vast.specs.Texts.{events_behind, row_text, matches_text, scan_end, line, part_text, rows_first, check_text}
 
 -- a row fits the last heading
-abbrev pub FitsLast : Option Heading → Step → Type 0
-FitsLast heading (step.Head layout) = Unit {0}
-FitsLast None (step.Line row) = ⊥
-FitsLast (Some heading) (step.Line row) = IsTrue (fits_fields heading.fields row)
+abbrev pub FitsLast : Option Heading → LogStep → Type 0
+FitsLast heading (Head next) = Unit {0}
+FitsLast None (Line row) = ⊥
+FitsLast (Some heading) (Line row) = IsTrue (fits_fields heading.fields row)
 
 abbrev pub heading_after : Option Heading → LogStep → Option Heading
 heading_after heading (Head next) = Some next
@@ -36,10 +35,6 @@ pub record Moves (behind behind_now : Steps → List ℕ) (step : LogStep) (held
   pub is : now ≡ append_known before sent
 
 -- what a scan writes of these steps, behind this heading
-abbrev pub heading_or_none : Option Heading → Heading
-heading_or_none None = no_heading
-heading_or_none (Some heading) = heading
-
 abbrev pub scan_behind : Option Heading → Expr → Steps → List ℕ
 scan_behind heading expr steps = matches_text expr (events_behind (heading_or_none heading) steps.given) ++ scan_end steps.end
 

@@ -1,5 +1,5 @@
 -- The texts that the commands write.
-use Rattle.std.specs.Prelude.{ℕ, ◌+◌, List, [], ◌∷◌, ◌++◌, length, codes}
+use Rattle.std.specs.Prelude.{ℕ, ◌+◌, List, [], ◌∷◌, ◌++◌, None, length, codes}
 use Rattle.std.specs.Fmt.{decimal}
 use Rattle.std.specs.List.{filter, flat_map}
 use Rattle.value_text.specs.Writing.{cell_text, escaped_text}
@@ -14,6 +14,7 @@ use Rattle.zeek_log.specs.declared.step.ZeekEnd.{ZeekEnd}
 use Rattle.zeek_log.specs.declared.step.ZeekEnd.TheVariants.{Done, Fault, ReadFault, TooLong, Memory}
 use Rattle.zeek_log.specs.declared.fault.ZeekFault.{ZeekFault}
 use Rattle.zeek_log.specs.declared.fault.ZeekFault.TheVariants as fault
+use Rattle.zeek_log.specs.Reader.{heading_or_none}
 use Rattle.zeek_log.specs.Steps.{Steps}
 use Rattle.zeek_log.specs.Table.{LogStep, Head, Line}
 
@@ -59,11 +60,8 @@ events_behind heading [] = []
 events_behind heading (Head next ∷ steps) = events_behind next steps
 events_behind heading (Line cells ∷ steps) = record { heading = heading; cells = cells } ∷ events_behind heading steps
 
-abbrev pub no_heading : Heading
-no_heading = record { path = []; fields = [] }
-
 abbrev pub events_of : List LogStep → List Event
-events_of steps = events_behind no_heading steps
+events_of steps = events_behind (heading_or_none None) steps
 
 -- the path by the plain escape, and each cell behind a tab
 abbrev pub row_text : Event → List ℕ

@@ -2,15 +2,16 @@
 ghost use Rattle.std.specs.Prelude.{◌≡◌, ◌++◌, ◌≤◌, ◌+◌, ◌<◌, ◌^◌, OnOk};
 ghost use Rattle.std.specs.Option.{option_map};
 ghost use Rattle.vast_value.specs.Headings.{heading_of};
-ghost use Rattle.zeek_log.specs.Steps.{ended, step_of};
+ghost use Rattle.zeek_log.specs.Reader.{heading_told, step_at};
+ghost use Rattle.zeek_log.specs.Steps.{ended};
 ghost use Rattle.vast.specs.Reports.{Carries, FitsLast, heading_after, check_behind, counted_text};
 ghost use Rattle.vast.specs.Texts.{check_end};
 
-use crate::report::Report;
+use crate::report::{Report, last_layout};
 use crate::texts::{push_end, push_layout};
-use std::alloc::AllocError;
+use std::alloc::{AllocError, Global};
 use vast_value::{Bytes, Layout};
-use zeek_log::{Step, ZeekEnd};
+use zeek_log::{Moved, ZeekEnd, ZeekReader};
 
 /// The line of each layout with the number of its rows, and then how the log ended.
 #[derive(Drop)]
@@ -29,15 +30,21 @@ impl Report for CheckReport {
     ghost rows = { λ report. report.rows };
 
     #[tactic(auto, using(crate::proofs::ReportLemmas::check_head, crate::proofs::ReportLemmas::check_line))]
-    fn take(&mut self, step: Step, out: &mut Bytes) -> Result<(), AllocError> {
-        match step {
-            Step::Head(next) => {
+    fn take(
+        &mut self,
+        alloc: Global,
+        reader: &ZeekReader,
+        moved: Moved,
+        out: &mut Bytes,
+    ) -> Result<(), AllocError> {
+        match moved {
+            Moved::Head => {
                 push_counted(&self.layout, self.rows, out)?;
-                self.layout = Some(next);
+                self.layout = last_layout(alloc, reader)?;
                 self.rows = 0;
                 Ok(())
             }
-            Step::Line(_) => {
+            Moved::Line => {
                 self.rows += 1;
                 Ok(())
             }

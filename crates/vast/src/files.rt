@@ -43,7 +43,7 @@ pub fn scan_file<O: Opener, K: Sink>(
 {
     match parse(alloc, query) {
         Ok(expr) => {
-            let report = ScanReport { expr, layout: None };
+            let report = ScanReport::new(expr);
             report_file(alloc, file, report, opener, sink)
         }
         Err(ParseEnd::Fault(fault)) => unopened(refuse_query(alloc, fault, sink)),

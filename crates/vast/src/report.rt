@@ -1,9 +1,11 @@
 //! What a command tells of a log.
-ghost use Rattle.std.specs.Prelude.{◌≡◌, ◌≢◌, ℕ, ◌+◌, ◌<◌, ◌≤◌, ◌^◌, ◌++◌, List, Option, None, is_some, OnOk, IsErrOf};
+ghost use Rattle.std.specs.Prelude.{◌≡◌, ◌≢◌, ℕ, ◌+◌, ◌<◌, ◌≤◌, ◌^◌, ◌++◌, List, Option, None, is_some, IfOk, OnOk, IsErrOf};
+ghost use Rattle.std.specs.Option.{option_map};
 ghost use Rattle.vast_io.specs.Causes.{Rose};
 ghost use Rattle.vast_io.specs.Told.{WritesPart};
-ghost use Rattle.vast_value.specs.Headings.{Heading};
-ghost use Rattle.zeek_log.specs.Steps.{Steps, ended, first, step_of};
+ghost use Rattle.vast_value.specs.Headings.{Heading, heading_of};
+ghost use Rattle.zeek_log.specs.Reader.{heading_told, step_at};
+ghost use Rattle.zeek_log.specs.Steps.{Steps, ended, first};
 ghost use Rattle.vast.specs.declared.report.WriteEnd.TheVariants.{Memory, Failed as SinkFailed};
 ghost use Rattle.vast.specs.Causes.{TellsOf, TellsSome, TellsText, IsOfReport, ReadsWell, LeavesNothing, SinkStands};
 ghost use Rattle.vast.specs.Reports.{Carries, FitsLast, Moves, heading_after, status_of};
@@ -12,8 +14,8 @@ use crate::buffer::Buffer;
 use crate::status::Status;
 use std::alloc::{AllocError, Global};
 use vast_io::{Failed, Sink, Source};
-use vast_value::Bytes;
-use zeek_log::{Step, ZeekEnd, ZeekReader};
+use vast_value::{Bytes, Layout};
+use zeek_log::{Moved, ZeekEnd, ZeekReader};
 
 /// What is told of a log, step by step.
 ///
@@ -26,12 +28,19 @@ pub trait Report {
 
     ghost rows: { Self → ℕ };
 
-    /// Takes a step, and puts what it tells behind what `out` holds.
-    fn take(&mut self, step: Step, out: &mut Bytes) -> Result<(), AllocError>
-        requires fits { FitsLast (heading self.old) step }
+    /// Takes the step at which the reader stands, and puts what it tells behind what `out` holds.
+    fn take(
+        &mut self,
+        alloc: Global,
+        reader: &ZeekReader,
+        moved: Moved,
+        out: &mut Bytes,
+    ) -> Result<(), AllocError>
+        requires fits { FitsLast (heading self.old) (step_at reader.now moved) }
+        requires told { heading_told reader.now.at.state ≡ heading_after (heading self.old) (step_at reader.now moved) }
         requires few { rows self.old < 2 ^ 40 }
-        ensures text { OnOk result (Carries (behind self.old) (behind self.new) (step_of step) out.old out.new) }
-        ensures heading { OnOk result (heading self.new ≡ heading_after (heading self.old) (step_of step)) }
+        ensures text { OnOk result (Carries (behind self.old) (behind self.new) (step_at reader.now moved) out.old out.new) }
+        ensures heading { OnOk result (heading self.new ≡ heading_after (heading self.old) (step_at reader.now moved)) }
         ensures rows { OnOk result (rows self.new ≤ rows self.old + 1) };
 
     /// Puts what is told at the end of a log behind what `out` holds.
@@ -105,9 +114,9 @@ pub fn write_report<W: Report, S: Source, K: Sink>(
     let mut reader = reader;
     let mut buffer = buffer;
     loop {
-        match reader.next(alloc, source) {
-            Ok(step) => {
-                if let Err(end) = write_step(report, step, &mut buffer, sink) {
+        match reader.advance(alloc, source) {
+            Ok(moved) => {
+                if let Err(end) = write_step(alloc, report, &reader, moved, &mut buffer, sink) {
                     return end.status();
                 }
             }
@@ -116,24 +125,37 @@ pub fn write_report<W: Report, S: Source, K: Sink>(
     }
 }
 
-// Takes a step, and writes what is gathered where it is much.
+/// A copy of the layout of the last head, if it stands.
+pub fn last_layout(alloc: Global, reader: &ZeekReader) -> Result<Option<Layout>, AllocError>
+    ensures { IfOk result (λ layout. option_map heading_of layout ≡ heading_told reader.now.at.state) }
+{
+    match reader.layout() {
+        Some(layout) => Ok(Some(layout.duplicate(alloc)?)),
+        None => Ok(None),
+    }
+}
+
+// Takes the step at which the reader stands, and writes what is gathered where it is much.
 fn write_step<W: Report, K: Sink>(
+    alloc: Global,
     report: &mut W,
-    step: Step,
+    reader: &ZeekReader,
+    moved: Moved,
     buffer: &mut Buffer,
     sink: &mut K,
 ) -> Result<(), WriteEnd>
-    requires fits { FitsLast (W.heading report.old) step }
+    requires fits { FitsLast (W.heading report.old) (step_at reader.now moved) }
+    requires told { heading_told reader.now.at.state ≡ heading_after (W.heading report.old) (step_at reader.now moved) }
     requires few { W.rows report.old < 2 ^ 40 }
-    ensures moves { OnOk result (Moves (W.behind report.old) (W.behind report.new) (step_of step) buffer.old.text buffer.new.text (K.written sink.old) (K.written sink.new)) }
-    ensures part { (rest : Steps) → WritesPart (K.written sink.old) (K.written sink.new) (buffer.old.text ++ W.behind report.old (first (step_of step) rest)) }
-    ensures heading { OnOk result (W.heading report.new ≡ heading_after (W.heading report.old) (step_of step)) }
+    ensures moves { OnOk result (Moves (W.behind report.old) (W.behind report.new) (step_at reader.now moved) buffer.old.text buffer.new.text (K.written sink.old) (K.written sink.new)) }
+    ensures part { (rest : Steps) → WritesPart (K.written sink.old) (K.written sink.new) (buffer.old.text ++ W.behind report.old (first (step_at reader.now moved) rest)) }
+    ensures heading { OnOk result (W.heading report.new ≡ heading_after (W.heading report.old) (step_at reader.now moved)) }
     ensures rows { OnOk result (W.rows report.new ≤ W.rows report.old + 1) }
     ensures failed { IsErrOf result WriteEnd.Failed → Rose (K.faults sink.old) (K.faults sink.new) }
     ensures memory { IsErrOf result WriteEnd.Memory → K.faults sink.new ≡ K.faults sink.old }
     ensures kept { OnOk result (K.faults sink.new ≡ K.faults sink.old) }
 {
-    report.take(step, &mut buffer.text)?;
+    report.take(alloc, reader, moved, &mut buffer.text)?;
     buffer.write_full(sink)?;
     Ok(())
 }

@@ -1,26 +1,44 @@
 //! The rows of a log that match a query.
-ghost use Rattle.std.specs.Prelude.{◌≡◌, ◌++◌, ◌≤◌, ◌+◌, ◌<◌, ◌^◌, if◌then◌else◌, [], OnOk, IsTrue};
+ghost use Rattle.std.specs.Prelude.{◌≡◌, ◌++◌, ◌≤◌, ◌+◌, ◌<◌, ◌^◌, Some, OnOk};
 ghost use Rattle.std.specs.Option.{option_map};
-ghost use Rattle.vast_value.specs.Fit.{fits_columns};
-ghost use Rattle.vast_value.specs.Headings.{heading_of};
-ghost use Rattle.query_meaning.specs.Meaning.{holds};
-ghost use Rattle.zeek_log.specs.Steps.{ended, step_of};
-ghost use Rattle.vast.specs.Reports.{Carries, FitsLast, heading_after, match_text, row_match, scan_behind};
+ghost use Rattle.vast_value.specs.Headings.{Heading, heading_of};
+ghost use Rattle.query_meaning.specs.Resolving.{IsOf};
+ghost use Rattle.zeek_log.specs.Reader.{heading_told, step_at};
+ghost use Rattle.zeek_log.specs.Steps.{ended};
+ghost use Rattle.zeek_log.specs.Table.{Line};
+ghost use Rattle.vast.specs.Reports.{Carries, FitsLast, heading_after, match_text, scan_behind};
 ghost use Rattle.vast.specs.Texts.{scan_end, line, end_text};
 
-use crate::report::Report;
+use crate::report::{Report, last_layout};
 use crate::texts::{push_end, push_row};
-use query_meaning::{Expr, holds};
-use std::alloc::AllocError;
-use vast_value::{Bytes, Layout, Row};
-use zeek_log::{Step, ZeekEnd};
+use query_meaning::{Expr, Resolved, ResolvedTest, resolve};
+use std::alloc::{AllocError, Global};
+use vast_value::{Bytes, Layout};
+use zeek_log::{Moved, ZeekEnd, ZeekReader};
 
 /// The line of each row that matches, and then how the log ended, but where all went well.
 #[derive(Drop)]
 pub struct ScanReport {
-    pub expr: Expr,
+    expr: Expr,
     /// The last layout.
-    pub layout: Option<Layout>,
+    layout: Option<Layout>,
+    /// The query with its columns chosen for that layout.
+    resolved: Resolved,
+    ghost chosen: { (heading : Heading) → option_map heading_of layout ≡ Some heading → IsOf heading expr resolved },
+}
+
+impl ScanReport {
+    /// A report that was told nothing yet.
+    pub fn new(expr: Expr) -> Self
+        ensures expr { result.expr ≡ expr }
+        ensures layout { result.layout ≡ None }
+    {
+        ScanReport {
+            expr,
+            layout: None,
+            resolved: Resolved::Test(ResolvedTest::Fixed(false)),
+        }
+    }
 }
 
 impl Report for ScanReport {
@@ -31,13 +49,23 @@ impl Report for ScanReport {
     ghost rows = { λ report. 0 };
 
     #[tactic(auto, using(crate::proofs::ReportLemmas::scan_head, crate::proofs::ReportLemmas::scan_line))]
-    fn take(&mut self, step: Step, out: &mut Bytes) -> Result<(), AllocError> {
-        match step {
-            Step::Head(next) => {
-                self.layout = Some(next);
+    fn take(
+        &mut self,
+        alloc: Global,
+        reader: &ZeekReader,
+        moved: Moved,
+        out: &mut Bytes,
+    ) -> Result<(), AllocError> {
+        match moved {
+            Moved::Head => {
+                let Some(layout) = last_layout(alloc, reader)? else {
+                    unreachable!()
+                };
+                self.resolved = resolve(alloc, &self.expr, &layout)?;
+                self.layout = Some(layout);
                 Ok(())
             }
-            Step::Line(row) => push_match(&self.expr, &self.layout, &row, out),
+            Moved::Line => push_match(alloc, self, reader, out),
         }
     }
 
@@ -46,31 +74,23 @@ impl Report for ScanReport {
     }
 }
 
-// Puts the line of a row behind what `out` holds, if it matches.
-#[tactic(auto, using(crate::proofs::ReportLemmas::fits_layout))]
+// Puts the line of the row at which the reader stands behind what `out` holds, if it matches.
 fn push_match(
-    expr: &Expr,
-    layout: &Option<Layout>,
-    row: &Row,
+    alloc: Global,
+    report: &ScanReport,
+    reader: &ZeekReader,
     out: &mut Bytes,
 ) -> Result<(), AllocError>
-    requires { FitsLast (option_map heading_of layout.now) (Step.Line row.now) }
-    ensures { OnOk result (out.new ≡ out.old ++ match_text (option_map heading_of layout.now) row.now expr.now) }
+    requires { FitsLast (option_map heading_of report.now.layout) (Line reader.now.row) }
+    ensures { OnOk result (out.new ≡ out.old ++ match_text (option_map heading_of report.now.layout) reader.now.row report.now.expr) }
 {
-    match layout {
-        Some(layout) => push_if_holds(expr, layout, row, out),
-        None => Ok(()),
-    }
-}
-
-fn push_if_holds(expr: &Expr, layout: &Layout, row: &Row, out: &mut Bytes) -> Result<(), AllocError>
-    requires { IsTrue (fits_columns layout.now.columns row.now) }
-    ensures { OnOk result (out.new ≡ out.old ++ row_match (heading_of layout.now) row.now expr.now) }
-{
-    if !holds(expr, layout, row) {
+    let Some(layout) = &report.layout else {
+        return Ok(());
+    };
+    if !report.resolved.holds(alloc, reader)? {
         return Ok(());
     }
-    push_row(layout, row, out)
+    push_row(layout, reader, out)
 }
 
 fn push_scan_end(end: ZeekEnd, out: &mut Bytes) -> Result<(), AllocError>

@@ -9,33 +9,17 @@ ghost use Rattle.vast.specs.Texts.{row_text, line, fault_name, fault_text, end_t
 use itoa::Buffer as Digits;
 use query_parse::{QueryFault, QueryWhat};
 use std::alloc::{AllocError, Global};
-use value_text::{write_cell, write_escaped};
-use vast_value::{Bytes, Cell, Layout, Row};
-use zeek_log::{ZeekEnd, ZeekFault};
+use value_text::write_escaped;
+use vast_value::{Bytes, Layout};
+use zeek_log::{ZeekEnd, ZeekFault, ZeekReader};
 
-/// Puts the line of a row behind what `out` holds: its path, and each cell behind a tab.
-pub fn push_row(layout: &Layout, row: &Row, out: &mut Bytes) -> Result<(), AllocError>
-    ensures { OnOk result (out.new ≡ out.old ++ line (row_text (record { heading = heading_of layout.now; cells = row.now }))) }
+/// Puts the line of the row at which a reader stands behind what `out` holds: its path, and each cell behind a tab.
+pub fn push_row(layout: &Layout, reader: &ZeekReader, out: &mut Bytes) -> Result<(), AllocError>
+    ensures { OnOk result (out.new ≡ out.old ++ line (row_text (record { heading = heading_of layout.now; cells = reader.now.row }))) }
 {
     write_escaped(layout.path(), out)?;
-    push_cells(row.as_slice(), out)?;
+    reader.write_row(out)?;
     out.push(b'\n')
-}
-
-fn push_cells(cells: &[Cell], out: &mut Bytes) -> Result<(), AllocError>
-    ensures { OnOk result (out.new ≡ out.old ++ flat_map (λ x. 9 ∷ cell_text x) cells.now) }
-{
-    for cell in cells {
-        push_cell(cell, out)?;
-    }
-    Ok(())
-}
-
-fn push_cell(cell: &Cell, out: &mut Bytes) -> Result<(), AllocError>
-    ensures { OnOk result (out.new ≡ out.old ++ 9 ∷ cell_text cell.now) }
-{
-    out.push(b'\t')?;
-    write_cell(cell, out)
 }
 
 /// Puts the line of a layout behind what `out` holds.
