@@ -1,16 +1,18 @@
 -- Values that the definitions have, computed by the prover. Each is false where its definition is wrong.
-use Rattle.std.proofs.Common.{◌≡◌, pos, negsuc, Bool, true, false, List, [], ◌∷◌, None, Some, codes, map, refl, lit≤}
+use Rattle.std.proofs.Common.{◌≡◌, pos, negsuc, Bool, true, false, List, [], ◌∷◌, None, Some, codes, map, filter, refl, lit≤}
 use Rattle.std.specs.List.{list_all, list_any}
 use Rattle.vast_value.specs.declared.kind.Elem.{Elem}
 use Rattle.vast_value.specs.declared.kind.Elem.TheVariants as elem
+use Rattle.vast_value.specs.declared.kind.Kind.{Kind}
 use Rattle.vast_value.specs.declared.kind.Kind.TheVariants as kind
 use Rattle.vast_value.specs.declared.net.Net.{Net}
-use Rattle.vast_value.specs.declared.transport.Transport.TheVariants.{Unknown, Tcp, Udp}
+use Rattle.vast_value.specs.declared.transport.Transport.{Transport}
+use Rattle.vast_value.specs.declared.transport.Transport.TheVariants.{Unknown, Tcp, Udp, Icmp}
 use Rattle.vast_value.specs.declared.value.Value.{Value}
 use Rattle.vast_value.specs.declared.value.Value.TheVariants as value
 use Rattle.vast_value.specs.declared.cell.Cell.{Cell}
 use Rattle.vast_value.specs.declared.cell.Cell.TheVariants as cell
-use Rattle.vast_value.specs.Headings.{Heading}
+use Rattle.vast_value.specs.Headings.{Field, Heading}
 use Rattle.vast_value.specs.Kinds.{every_elem}
 use Rattle.query_meaning.specs.declared.expr.Expr.TheOpen.{Expr-F}
 use Rattle.query_meaning.specs.declared.expr.Expr.TheOpen as level
@@ -19,14 +21,18 @@ use Rattle.query_meaning.specs.declared.expr.Pick.TheVariants.{OfKind, Named, Ty
 use Rattle.query_meaning.specs.declared.expr.Rel.{Rel}
 use Rattle.query_meaning.specs.declared.expr.Rel.TheVariants.{Eq, Ne, Lt, Le, Gt, Ge, Within, Contains}
 use Rattle.query_meaning.specs.declared.expr.Literal.TheVariants.{Nil, Of}
-use Rattle.query_meaning.specs.Agreement.{relates, stands, pick_agrees}
-use Rattle.query_meaning.specs.Meaning.{chosen, level_holds}
-use Rattle.query_meaning.specs.Picks.{is_named}
-use Rattle.query_meaning.specs.Relations.{same_bool, meets, value_meets}
+use Rattle.query_meaning.specs.declared.expr.Test.{Test}
+use Rattle.query_meaning.specs.Agreement.{is_subnet, is_related, may_have, relates, is_equality, stands, stands_for, pick_agrees}
+use Rattle.query_meaning.specs.Meaning.{cells_if, is_of, first_or_unset, event_time, chosen, test_holds, level_holds}
+use Rattle.query_meaning.specs.Picks.{full_name, is_named}
+use Rattle.query_meaning.specs.Relations.{goes_with, same_bool, takes_transport, equals, differs, stands_first, has, equals_element, value_meets, elements_meet, is_unset, nil_meets, literal_meets, meets}
 
--- 10.0.0.0/8, 10.1.0.0/16 and 11.0.0.0/8
+-- 10.0.0.0/8, 10.0.0.0/16, 10.1.0.0/16 and 11.0.0.0/8
 abbrev net_10 : Net
 net_10 = record { base = 281470849515520; bits = 104; narrow = lit≤ tt; masked = refl }
+
+abbrev net_10_0 : Net
+net_10_0 = record { base = 281470849515520; bits = 112; narrow = lit≤ tt; masked = refl }
 
 abbrev net_10_1 : Net
 net_10_1 = record { base = 281470849581056; bits = 112; narrow = lit≤ tt; masked = refl }
@@ -55,29 +61,47 @@ is_met rel e f = list_any (λ l. list_any (λ v. value_meets rel l v) (samples f
 abbrev is_exact : Rel → Bool
 is_exact rel = list_all (λ e. list_all (λ f. same_bool (relates rel e f) (is_met rel e f)) every_elem) every_elem
 
-table_eq : is_exact Eq ≡ true
-table_eq = refl
+abbrev every_rel : List Rel
+every_rel = Eq ∷ Ne ∷ Lt ∷ Le ∷ Gt ∷ Ge ∷ Within ∷ Contains ∷ []
 
-table_ne : is_exact Ne ≡ true
-table_ne = refl
+table_is_exact : filter is_exact every_rel ≡ every_rel
+table_is_exact = refl
 
-table_lt : is_exact Lt ≡ true
-table_lt = refl
+-- a literal goes with its own kind, and a text with strings and enums alike
+a_text_goes_with_enums_too : map (λ e. filter (goes_with e) every_elem) every_elem
+    ≡ ((elem.Text ∷ elem.Name ∷ []) ∷ (elem.Span ∷ []) ∷ (elem.Subnet ∷ []) ∷ (elem.Bool ∷ []) ∷ (elem.Count ∷ []) ∷ (elem.Int ∷ []) ∷ (elem.Time ∷ []) ∷ (elem.Text ∷ elem.Name ∷ []) ∷ (elem.Addr ∷ []) ∷ (elem.Port ∷ []) ∷ [])
+a_text_goes_with_enums_too = refl
 
-table_le : is_exact Le ≡ true
-table_le = refl
+subnets_alone_are_subnets : filter is_subnet every_elem ≡ elem.Subnet ∷ []
+subnets_alone_are_subnets = refl
 
-table_gt : is_exact Gt ≡ true
-table_gt = refl
+-- single cells that `ni` is about: texts for a text, and subnets for an address or a subnet
+ni_is_about_texts_and_subnets : map (λ e. filter (may_have e) every_elem) every_elem
+    ≡ ((elem.Text ∷ elem.Name ∷ []) ∷ [] ∷ (elem.Subnet ∷ []) ∷ [] ∷ [] ∷ [] ∷ [] ∷ (elem.Text ∷ elem.Name ∷ []) ∷ (elem.Subnet ∷ []) ∷ [] ∷ [])
+ni_is_about_texts_and_subnets = refl
 
-table_ge : is_exact Ge ≡ true
-table_ge = refl
+abbrev kinds_with_order : List Elem
+kinds_with_order = elem.Span ∷ elem.Count ∷ elem.Int ∷ elem.Time ∷ elem.Port ∷ []
 
-table_in : is_exact Within ≡ true
-table_in = refl
+-- the kinds of the literals that each relation is of
+literals_of_each_relation : map (λ rel. filter (is_related rel) every_elem) every_rel
+    ≡ (every_elem ∷ every_elem ∷ kinds_with_order ∷ kinds_with_order ∷ kinds_with_order ∷ kinds_with_order ∷ (elem.Subnet ∷ []) ∷ every_elem ∷ [])
+literals_of_each_relation = refl
 
-table_ni : is_exact Contains ≡ true
-table_ni = refl
+nil_is_compared_by_equality_alone : filter is_equality every_rel ≡ Eq ∷ Ne ∷ []
+nil_is_compared_by_equality_alone = refl
+
+-- the kinds of the cells in each row of `nil`, of an address and of a subnet
+cells_of_nil : map (λ rel. filter (stands_for rel Nil) every_elem) every_rel ≡ (every_elem ∷ every_elem ∷ [] ∷ [] ∷ [] ∷ [] ∷ [] ∷ [] ∷ [])
+cells_of_nil = refl
+
+cells_of_an_address : map (λ rel. filter (stands_for rel (Of (value.Addr 1))) every_elem) every_rel
+    ≡ ((elem.Addr ∷ []) ∷ (elem.Addr ∷ []) ∷ [] ∷ [] ∷ [] ∷ [] ∷ [] ∷ (elem.Subnet ∷ []) ∷ [])
+cells_of_an_address = refl
+
+cells_of_a_subnet : map (λ rel. filter (stands_for rel (Of (value.Subnet net_10))) every_elem) every_rel
+    ≡ ((elem.Subnet ∷ []) ∷ (elem.Subnet ∷ []) ∷ [] ∷ [] ∷ [] ∷ [] ∷ (elem.Subnet ∷ elem.Addr ∷ []) ∷ (elem.Subnet ∷ []) ∷ [])
+cells_of_a_subnet = refl
 
 -- a relation and a literal's kind that stand in no row, each once
 rows : (stands Lt (Of (value.Text [])) ∷ stands Ge (Of (value.Addr 1)) ∷ stands Within (Of (value.Addr 1)) ∷ stands Within (Of (value.Subnet net_10)) ∷ stands Contains (Of (value.Bool true)) ∷ stands Contains Nil ∷ stands Lt Nil ∷ stands Ne Nil ∷ stands Lt (Of (value.Port 1 Tcp)) ∷ []) ≡ (false ∷ false ∷ false ∷ true ∷ true ∷ false ∷ false ∷ true ∷ true ∷ [])
@@ -86,6 +110,31 @@ rows = refl
 -- `&type` is a string and `&time` a time; a kind that is not among the row's cells clashes
 picks_agree : (pick_agrees TypeName Contains (Of (value.Text [])) ∷ pick_agrees TypeName Eq (Of (value.Count 1)) ∷ pick_agrees EventTime Lt (Of (value.Time (pos 1))) ∷ pick_agrees EventTime Eq (Of (value.Span (pos 1))) ∷ pick_agrees (OfKind elem.Addr) Within (Of (value.Subnet net_10)) ∷ pick_agrees (OfKind elem.Count) Contains (Of (value.Count 1)) ∷ pick_agrees (Named []) Contains (Of (value.Count 1)) ∷ pick_agrees (OfKind elem.Count) Eq Nil ∷ []) ≡ (true ∷ false ∷ true ∷ false ∷ true ∷ false ∷ true ∷ true ∷ [])
 picks_agree = refl
+
+-- of two values of a kind each equals itself alone, and differs from the other alone
+each_value_equals_itself_alone : map (λ e. map (λ l. map (equals l) (samples e)) (samples e)) every_elem ≡ map (λ e. (true ∷ false ∷ []) ∷ (false ∷ true ∷ []) ∷ []) every_elem
+each_value_equals_itself_alone = refl
+
+each_value_differs_from_the_other : map (λ e. map (λ l. map (differs l) (samples e)) (samples e)) every_elem ≡ map (λ e. (false ∷ true ∷ []) ∷ (true ∷ false ∷ []) ∷ []) every_elem
+each_value_differs_from_the_other = refl
+
+-- the same bytes as a string and as an enum, and what is not equal by its sign, its kind, its end, its bits or base alone
+nearly_equal : (equals (value.Text (codes "ab")) (value.Name (codes "ab")) ∷ equals (value.Name (codes "ab")) (value.Text (codes "ab")) ∷ equals (value.Int (negsuc 0)) (value.Int (pos 1)) ∷ equals (value.Count 1) (value.Int (pos 1)) ∷ equals (value.Time (pos 1)) (value.Span (pos 1)) ∷ equals (value.Text (codes "ab")) (value.Text (codes "abc")) ∷ equals (value.Subnet net_10) (value.Subnet net_10_0) ∷ equals (value.Subnet net_10) (value.Subnet net_11) ∷ []) ≡ (true ∷ true ∷ false ∷ false ∷ false ∷ false ∷ false ∷ false ∷ [])
+nearly_equal = refl
+
+-- what differs is of a kind that the literal goes with
+other_kinds_do_not_differ : (differs (value.Text (codes "a")) (value.Name (codes "b")) ∷ differs (value.Text (codes "a")) (value.Name (codes "a")) ∷ differs (value.Count 1) (value.Int (pos 2)) ∷ differs (value.Addr 1) (value.Subnet net_10) ∷ []) ≡ (true ∷ false ∷ false ∷ false ∷ [])
+other_kinds_do_not_differ = refl
+
+abbrev every_transport : List Transport
+every_transport = Unknown ∷ Tcp ∷ Udp ∷ Icmp ∷ []
+
+-- a literal without a transport takes each, and another its own alone
+unknown_takes_every_transport : map (λ literal. filter (takes_transport literal) every_transport) every_transport ≡ (every_transport ∷ (Tcp ∷ []) ∷ (Udp ∷ []) ∷ (Icmp ∷ []) ∷ [])
+unknown_takes_every_transport = refl
+
+equal_ports : (equals (value.Port 53 Unknown) (value.Port 53 Udp) ∷ equals (value.Port 53 Udp) (value.Port 53 Unknown) ∷ equals (value.Port 53 Unknown) (value.Port 54 Udp) ∷ differs (value.Port 53 Udp) (value.Port 53 Tcp) ∷ differs (value.Port 53 Unknown) (value.Port 53 Tcp) ∷ []) ≡ (true ∷ false ∷ false ∷ true ∷ false ∷ [])
+equal_ports = refl
 
 -- of each relation between two values what it says of the lower, the equal and the higher
 abbrev three : (Value → Value) → Rel → Value → Value → Value → List Bool
@@ -115,6 +164,14 @@ texts = refl
 subnets : (value_meets Within (value.Subnet net_10) (value.Addr 281470866292735) ∷ value_meets Within (value.Subnet net_10) (value.Addr 281470866292736) ∷ value_meets Within (value.Subnet net_10) (value.Subnet net_10_1) ∷ value_meets Within (value.Subnet net_10_1) (value.Subnet net_10) ∷ value_meets Within (value.Subnet net_11) (value.Subnet net_10_1) ∷ value_meets Eq (value.Subnet net_10) (value.Subnet net_10_1) ∷ value_meets Contains (value.Subnet net_10_1) (value.Subnet net_10) ∷ value_meets Contains (value.Addr 281470866292736) (value.Subnet net_10) ∷ []) ≡ (true ∷ false ∷ true ∷ false ∷ false ∷ false ∷ true ∷ false ∷ [])
 subnets = refl
 
+-- the needle stands first, up to the whole text and no further
+what_stands_first : map (λ needle. stands_first needle (codes "ab")) (codes "" ∷ codes "a" ∷ codes "ab" ∷ codes "b" ∷ codes "abc" ∷ codes "aB" ∷ []) ≡ (true ∷ true ∷ true ∷ false ∷ false ∷ false ∷ [])
+what_stands_first = refl
+
+-- `ni`: the cell holds the literal, and not the other way round; single values of other kinds hold nothing
+the_cell_has_the_literal : (has (value.Text (codes "bc")) (value.Text (codes "abcd")) ∷ has (value.Text (codes "bc")) (value.Name (codes "abcd")) ∷ has (value.Name (codes "bc")) (value.Text (codes "abcd")) ∷ has (value.Text (codes "abcd")) (value.Text (codes "bc")) ∷ has (value.Addr 281470866292735) (value.Subnet net_10) ∷ has (value.Addr 281470866292736) (value.Subnet net_10) ∷ has (value.Subnet net_10_1) (value.Subnet net_10) ∷ has (value.Subnet net_10) (value.Subnet net_10_1) ∷ has (value.Subnet net_10) (value.Addr 281470866292735) ∷ has (value.Addr 1) (value.Addr 1) ∷ has (value.Count 1) (value.Count 1) ∷ []) ≡ (true ∷ true ∷ true ∷ false ∷ true ∷ false ∷ true ∷ false ∷ false ∷ false ∷ false ∷ [])
+the_cell_has_the_literal = refl
+
 -- An unset cell meets `== nil` alone, and a set one `!= nil`.
 unset : map (λ rel. meets rel Nil cell.Unset ∷ meets rel Nil (cell.One (value.Count 0)) ∷ meets rel Nil (cell.Many []) ∷ meets rel (Of (value.Count 0)) cell.Unset ∷ []) (Eq ∷ Ne ∷ Lt ∷ Ge ∷ Within ∷ Contains ∷ []) ≡ ((true ∷ false ∷ false ∷ false ∷ []) ∷ (false ∷ true ∷ true ∷ false ∷ []) ∷ (false ∷ false ∷ false ∷ false ∷ []) ∷ (false ∷ false ∷ false ∷ false ∷ []) ∷ (false ∷ false ∷ false ∷ false ∷ []) ∷ (false ∷ false ∷ false ∷ false ∷ []) ∷ [])
 unset = refl
@@ -123,9 +180,29 @@ unset = refl
 containers : map (λ rel. meets rel (Of (value.Count 5)) (cell.Many (None ∷ Some (value.Count 5) ∷ [])) ∷ meets rel (Of (value.Count 5)) (cell.Many (None ∷ Some (value.Count 6) ∷ [])) ∷ []) (Eq ∷ Ne ∷ Lt ∷ Le ∷ Gt ∷ Ge ∷ Within ∷ Contains ∷ []) ≡ ((false ∷ false ∷ []) ∷ (false ∷ false ∷ []) ∷ (false ∷ false ∷ []) ∷ (false ∷ false ∷ []) ∷ (false ∷ false ∷ []) ∷ (false ∷ false ∷ []) ∷ (false ∷ false ∷ []) ∷ (true ∷ false ∷ []) ∷ [])
 containers = refl
 
+unset_alone_is_unset : map is_unset (cell.Unset ∷ cell.One (value.Text []) ∷ cell.Many [] ∷ cell.Many (None ∷ []) ∷ []) ≡ (true ∷ false ∷ false ∷ false ∷ [])
+unset_alone_is_unset = refl
+
+-- the relations that hold of an unset cell, of a set one and of a container to `nil`, and then to a literal 5
+relations_to_nil : map (λ x. filter (λ rel. nil_meets rel x) every_rel) (cell.Unset ∷ cell.One (value.Bool false) ∷ cell.Many [] ∷ []) ≡ ((Eq ∷ []) ∷ (Ne ∷ []) ∷ (Ne ∷ []) ∷ [])
+relations_to_nil = refl
+
+relations_to_five : map (λ x. filter (λ rel. literal_meets rel (value.Count 5) x) every_rel) (cell.Unset ∷ cell.One (value.Count 4) ∷ cell.One (value.Count 5) ∷ cell.One (value.Count 6) ∷ cell.One (value.Int (pos 5)) ∷ cell.Many (Some (value.Count 5) ∷ []) ∷ []) ≡ ([] ∷ (Ne ∷ Lt ∷ Le ∷ []) ∷ (Eq ∷ Le ∷ Ge ∷ []) ∷ (Ne ∷ Gt ∷ Ge ∷ []) ∷ [] ∷ (Contains ∷ []) ∷ [])
+relations_to_five = refl
+
+-- one equal element is enough, an unset one equals nothing, and a text in an element is not that element
+an_unset_element_equals_nothing : map (equals_element (value.Count 5)) (None ∷ Some (value.Count 5) ∷ Some (value.Count 6) ∷ []) ≡ (false ∷ true ∷ false ∷ [])
+an_unset_element_equals_nothing = refl
+
+some_equal_element : map (λ items. filter (λ rel. elements_meet rel (value.Text (codes "b")) items) every_rel) ((None ∷ Some (value.Text (codes "a")) ∷ Some (value.Text (codes "b")) ∷ []) ∷ (None ∷ Some (value.Text (codes "abc")) ∷ []) ∷ [] ∷ []) ≡ ((Contains ∷ []) ∷ [] ∷ [] ∷ [])
+some_equal_element = refl
+
 -- A name is the full name of a column, or what stands behind a dot of it.
 names : map (is_named (codes "conn") (codes "id.resp_p")) (codes "conn.id.resp_p" ∷ codes "id.resp_p" ∷ codes "resp_p" ∷ codes "p" ∷ codes "esp_p" ∷ codes "" ∷ codes "n.id.resp_p" ∷ codes "conn" ∷ []) ≡ (true ∷ true ∷ true ∷ false ∷ false ∷ false ∷ false ∷ false ∷ [])
 names = refl
+
+a_full_name_is_path_dot_and_column : full_name (codes "conn") (codes "id.resp_p") ≡ codes "conn.id.resp_p"
+a_full_name_is_path_dot_and_column = refl
 
 -- a layout with two times, a number and a set of numbers
 abbrev layout : Heading
@@ -134,12 +211,36 @@ layout = record { path = codes "p"; fields = record { name = codes "n"; kind = k
 abbrev cells : List Cell
 cells = cell.One (value.Count 7) ∷ cell.Unset ∷ cell.One (value.Time (pos 9)) ∷ cell.Many [] ∷ []
 
+-- no container is of a kind
+single_columns_alone_are_of_a_kind : map (is_of elem.Count) (kind.One elem.Count ∷ kind.One elem.Int ∷ kind.SetOf elem.Count ∷ kind.VecOf elem.Count ∷ []) ≡ (true ∷ false ∷ false ∷ false ∷ [])
+single_columns_alone_are_of_a_kind = refl
+
+a_cell_is_chosen_or_left_out : (cells_if true cell.Unset cells ∷ cells_if false cell.Unset cells ∷ []) ≡ ((cell.Unset ∷ cells) ∷ cells ∷ [])
+a_cell_is_chosen_or_left_out = refl
+
+the_first_cell_stands_also_where_it_is_unset : (first_or_unset [] ∷ first_or_unset (cell.Many [] ∷ cells) ∷ first_or_unset (cell.Unset ∷ cells) ∷ []) ≡ (cell.Unset ∷ cell.Many [] ∷ cell.Unset ∷ [])
+the_first_cell_stands_also_where_it_is_unset = refl
+
+abbrev field : Kind → Field
+field kind = record { name = codes "c"; kind = kind }
+
+-- the first cell of kind time, also where it is unset; a set of times is none
+event_times : (event_time (field (kind.SetOf elem.Time) ∷ field (kind.One elem.Time) ∷ field (kind.One elem.Time) ∷ []) (cell.Many [] ∷ cell.One (value.Time (pos 3)) ∷ cell.One (value.Time (pos 9)) ∷ []) ∷ event_time layout.fields cells ∷ event_time (field (kind.One elem.Span) ∷ []) (cell.One (value.Span (pos 3)) ∷ []) ∷ []) ≡ (cell.One (value.Time (pos 3)) ∷ cell.Unset ∷ cell.Unset ∷ [])
+event_times = refl
+
 -- single columns alone are of a kind, and the event's time is the first time column's, also where that is unset
 picks : (chosen (OfKind elem.Count) layout cells ∷ chosen (OfKind elem.Time) layout cells ∷ chosen (Named (codes "s")) layout cells ∷ chosen (Named (codes "x")) layout cells ∷ chosen TypeName layout cells ∷ chosen EventTime layout cells ∷ chosen EventTime (record { path = codes "p"; fields = [] }) [] ∷ []) ≡ ((cell.One (value.Count 7) ∷ []) ∷ (cell.Unset ∷ cell.One (value.Time (pos 9)) ∷ []) ∷ (cell.Many [] ∷ []) ∷ [] ∷ (cell.One (value.Text (codes "p")) ∷ []) ∷ (cell.Unset ∷ []) ∷ (cell.Unset ∷ []) ∷ [])
 picks = refl
 
+abbrev asks : Pick → Rel → Value → Test
+asks pick rel literal = record { pick = pick; rel = rel; literal = Of literal }
+
+-- some chosen cell is enough, and where none is chosen nothing holds
+some_chosen_cell_meets : map (λ test. test_holds test layout cells) (asks (OfKind elem.Time) Eq (value.Time (pos 9)) ∷ asks (OfKind elem.Time) Ne (value.Time (pos 9)) ∷ asks (Named (codes "n")) Gt (value.Count 6) ∷ asks (Named (codes "n")) Gt (value.Count 7) ∷ asks (Named (codes "x")) Ne (value.Count 1) ∷ asks TypeName Eq (value.Text (codes "p")) ∷ []) ≡ (true ∷ false ∷ true ∷ false ∷ false ∷ true ∷ [])
+some_chosen_cell_meets = refl
+
 abbrev test : Pick → Rel → Value → Expr-F Bool
-test pick rel literal = level.Test (record { pick = pick; rel = rel; literal = Of literal })
+test pick rel literal = level.Test (asks pick rel literal)
 
 -- some chosen cell is enough, and where none is chosen nothing holds; an `And` of none holds and an `Or` of none does not
 matches : map (level_holds layout cells) (test (OfKind elem.Time) Eq (value.Time (pos 9)) ∷ test (OfKind elem.Time) Eq (value.Time (pos 8)) ∷ test (Named (codes "x")) Ne (value.Count 1) ∷ level.Not false ∷ level.And [] ∷ level.Or [] ∷ level.And (true ∷ false ∷ []) ∷ level.Or (true ∷ false ∷ []) ∷ []) ≡ (true ∷ false ∷ false ∷ true ∷ true ∷ false ∷ false ∷ true ∷ [])

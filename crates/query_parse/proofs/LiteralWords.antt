@@ -30,41 +30,20 @@ use Rattle.query_parse.proofs.WordLemmas.{both}
 
 -- What reads as a value is no word of the others.
 
-apart : (w c : List ℕ) (v : Value) → literal_read w ≡ Some v → literal_read c ≡ None → bytes_eq w c ≡ false
+abbrev IsNoValue : List ℕ → Type 0
+IsNoValue w = literal_read w ≡ None
+
+apart : (w c : List ℕ) (v : Value) → literal_read w ≡ Some v → IsNoValue c → bytes_eq w c ≡ false
 apart w c v h k = false_from_ne_true (bytes_eq w c) (λ is.
     let back : Some v ≡ None = sym h ∙ (ap literal_read ((bytes_eq-Decides w c).0 is) ∙ k) in
     cc)
 
-none_in : literal_read (codes "in") ≡ None
+none_words : IsNoValue (codes "in") × IsNoValue (codes "ni") × IsNoValue (codes "nil") × IsNoValue (codes "T") × IsNoValue (codes "F") × IsNoValue (codes "&type") × IsNoValue (codes "&time")
 unfolding literal_read moment_of
-none_in = refl
-
-none_ni : literal_read (codes "ni") ≡ None
-unfolding literal_read moment_of
-none_ni = refl
-
-none_nil : literal_read (codes "nil") ≡ None
-unfolding literal_read moment_of
-none_nil = refl
-
-none_true : literal_read (codes "T") ≡ None
-unfolding literal_read moment_of
-none_true = refl
-
-none_false : literal_read (codes "F") ≡ None
-unfolding literal_read moment_of
-none_false = refl
-
-none_type : literal_read (codes "&type") ≡ None
-unfolding literal_read moment_of
-none_type = refl
-
-none_time : literal_read (codes "&time") ≡ None
-unfolding literal_read moment_of
-none_time = refl
+none_words = (refl, refl, refl, refl, refl, refl, refl)
 
 abbrev Unread : List ℕ → Type 0
-Unread name = literal_read (58 ∷ name) ≡ None
+Unread name = IsNoValue (58 ∷ name)
 
 none_kinds : Unread (codes "string") × Unread (codes "interval") × Unread (codes "subnet") × Unread (codes "bool") × Unread (codes "count") × Unread (codes "int") × Unread (codes "time") × Unread (codes "enum") × Unread (codes "addr") × Unread (codes "port")
 unfolding literal_read moment_of
@@ -101,14 +80,15 @@ no_kind (b ∷ bs) v h = elim (cases_Bool (eqb b 58)) [
 word_is : (w : List ℕ) (v : Value) → begins_literal w ≡ true → literal_read w ≡ Some v → word_lexeme w ≡ lexeme.Literal (Of v)
 unfolding word_lexeme
 word_is w v begins h =
+    let k = none_words in
     rw (
-      apart w (codes "in") v h none_in,
-      apart w (codes "ni") v h none_ni,
-      apart w (codes "nil") v h none_nil,
-      apart w (codes "T") v h none_true,
-      apart w (codes "F") v h none_false,
-      apart w (codes "&type") v h none_type,
-      apart w (codes "&time") v h none_time,
+      apart w (codes "in") v h k.0,
+      apart w (codes "ni") v h k.1,
+      apart w (codes "nil") v h k.2,
+      apart w (codes "T") v h k.3,
+      apart w (codes "F") v h k.4,
+      apart w (codes "&type") v h k.5,
+      apart w (codes "&time") v h k.6,
       no_kind w v h,
       begins,
       h,

@@ -15,14 +15,15 @@ other_stays a (b ∷ []) other = rw other refl
 other_stays a (b ∷ (c ∷ [])) other = rw other refl
 other_stays a (b ∷ (c ∷ (d ∷ rest))) other = rw other refl
 
-twice : (bs : List ℕ) → unescaped (92 ∷ (92 ∷ bs)) ≡ 92 ∷ unescaped bs
-twice [] = refl
-twice (c ∷ []) = refl
-twice (c ∷ (d ∷ rest)) = refl
+-- two backslashes are one
+pub backslash_twice : (bs : List ℕ) → unescaped (92 ∷ (92 ∷ bs)) ≡ 92 ∷ unescaped bs
+backslash_twice [] = refl
+backslash_twice (c ∷ []) = refl
+backslash_twice (c ∷ (d ∷ rest)) = refl
 
 pub escape-twice : (behind : List ℕ) → 0 < length behind → get_or behind 0 0 ≡ 92 → unescaped (92 ∷ behind) ≡ 92 ∷ unescaped (drop 1 behind)
 escape-twice [] some same = absurd (omega arith)
-escape-twice (b ∷ bs) some same = ap (λ x. unescaped (92 ∷ (x ∷ bs))) same ∙ twice bs
+escape-twice (b ∷ bs) some same = ap (λ x. unescaped (92 ∷ (x ∷ bs))) same ∙ backslash_twice bs
 
 pub escape-short : (behind : List ℕ) → 0 < length behind → (get_or behind 0 0 == 92) ≡ false → length behind < 3 → unescaped (92 ∷ behind) ≡ 92 ∷ unescaped behind
 escape-short [] some other short = absurd (omega arith)

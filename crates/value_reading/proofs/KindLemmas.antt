@@ -53,14 +53,7 @@ pick_kind e false a b v h k eq = k eq
 empty_kind : (e : Elem) (v : Value) → empty_value e ≡ Some v → IsOf e v
 empty_kind elem.Text v eq = from_map value.Text elem.Text (λ x. refl) (Some []) v eq
 empty_kind elem.Name v eq = from_map value.Name elem.Name (λ x. refl) (Some []) v eq
-empty_kind elem.Bool v eq = absurd cc
-empty_kind elem.Count v eq = absurd cc
-empty_kind elem.Int v eq = absurd cc
-empty_kind elem.Time v eq = absurd cc
-empty_kind elem.Span v eq = absurd cc
-empty_kind elem.Addr v eq = absurd cc
-empty_kind elem.Subnet v eq = absurd cc
-empty_kind elem.Port v eq = absurd cc
+empty_kind _ v eq = absurd cc
 
 set_kind : (marks : Marks) (e : Elem) (raw : List ℕ) (v : Value) → set_read marks e raw ≡ Some v → IsOf e v
 set_kind marks e raw v eq =

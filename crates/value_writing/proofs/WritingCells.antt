@@ -16,17 +16,18 @@ use Rattle.vast_value.specs.declared.value.Value.{Value}
 use Rattle.vast_value.specs.declared.value.Value.TheVariants as value
 use Rattle.vast_value.specs.declared.cell.Cell.{Cell}
 use Rattle.vast_value.specs.declared.cell.Cell.TheVariants as cell
-use Rattle.vast_value.specs.Fit.{is_i64, is_ranged, is_ranged_element, is_ranged_cell}
+use Rattle.vast_value.specs.Fit.{is_byte, is_i64, is_ranged, is_ranged_element, is_ranged_cell}
 use Rattle.vast_value.specs.Kinds.{elem_of, elem_eq, is_element, is_lone_unset, are_elements, has_kind}
 use Rattle.vast_value.proofs.KindLemmas.{elem_is}
 use Rattle.value_reading.specs.declared.marks.Marks.{Marks}
 use Rattle.value_writing.specs.declared.place.Place.{Place}
 use Rattle.value_writing.specs.declared.place.Place.TheVariants as place
 use Rattle.value_reading.specs.Escapes.{unescaped}
+use Rattle.value_reading.proofs.EscapeLemmas.{other_stays}
 use Rattle.value_reading.specs.Reading.{value_read, empty_value, is_text, set_read, element_read, elements_read, container_read, kind_read, cell_read}
-use Rattle.value_writing.specs.Writing.{AreUsual, span_text, seconds_text, fraction_text, last_digits, value_text, is_empty_value, element_text, cell_text, is_printable}
+use Rattle.value_writing.specs.Writing.{AreUsual, span_text, seconds_text, fraction_text, last_digits, text_text, value_text, is_empty_value, element_text, cell_text, is_printable}
 use Rattle.value_writing.proofs.WritingNumbers.{both, not_true, all_append, all_weaker, decimal_all, up_to_again, int_again, span_again}
-use Rattle.value_writing.proofs.WritingTexts.{other_again, text_again, text_no_dash, text_no_empty, no_comma, text_no_comma, text_printable}
+use Rattle.value_writing.proofs.WritingTexts.{text_again, text_no_dash, text_no_empty, no_comma, text_no_comma, text_printable}
 use Rattle.value_writing.proofs.WritingDotted.{split_joined, joined_all}
 use Rattle.value_writing.proofs.WritingAddresses.{address_again, address_passes}
 use Rattle.value_writing.proofs.WritingSubnets.{subnet_again, subnet_passes}
@@ -95,7 +96,7 @@ clean_unescaped [] h = refl
 clean_unescaped (b ∷ bs) h =
     let a = both (is_clean b) (list_all is_clean bs) h in
     let c = clean_parts b a.0 in
-    other_again b bs c.1.0 ∙ ap (λ (x : List ℕ). b ∷ x) (clean_unescaped bs a.1)
+    other_stays b bs c.1.0 ∙ ap (λ (x : List ℕ). b ∷ x) (clean_unescaped bs a.1)
 
 plain_again : (place : Place) (v : Value) → is_ranged v ≡ true → is_text (elem_of v) ≡ false → value_read (elem_of v) (value_text place v) ≡ Some v
 unfolding value_text value_read
@@ -111,33 +112,12 @@ plain_again place (value.Addr a) h k = rw (address_again a (ltb-true a (2 ^ 128)
 plain_again place (value.Subnet n) h k = rw (subnet_again n (ltb-true n.base (2 ^ 128) h)) refl
 plain_again place (value.Port p over) h k = rw (port_again p over (ltb-true p (2 ^ 16) h)) refl
 
--- a dash is no value
-dash_unread : (e : Elem) → is_text e ≡ false → value_read e (codes "-") ≡ None
+-- a mark is no value but a text
+marks_unread : (e : Elem) → is_text e ≡ false → (value_read e (codes "-") ≡ None) × (value_read e (codes "(empty)") ≡ None)
 unfolding value_read
-dash_unread elem.Bool k = refl
-dash_unread elem.Count k = refl
-dash_unread elem.Int k = refl
-dash_unread elem.Time k = refl
-dash_unread elem.Span k = refl
-dash_unread elem.Text k = absurd cc
-dash_unread elem.Name k = absurd cc
-dash_unread elem.Addr k = refl
-dash_unread elem.Subnet k = refl
-dash_unread elem.Port k = refl
-
--- `(empty)` is no value but a text
-empty_unread : (e : Elem) → is_text e ≡ false → value_read e (codes "(empty)") ≡ None
-unfolding value_read
-empty_unread elem.Bool k = refl
-empty_unread elem.Count k = refl
-empty_unread elem.Int k = refl
-empty_unread elem.Time k = refl
-empty_unread elem.Span k = refl
-empty_unread elem.Text k = absurd cc
-empty_unread elem.Name k = absurd cc
-empty_unread elem.Addr k = refl
-empty_unread elem.Subnet k = refl
-empty_unread elem.Port k = refl
+marks_unread elem.Text k = absurd cc
+marks_unread elem.Name k = absurd cc
+marks_unread _ k = (refl, refl)
 
 -- what reads as a value is no text that reads as none
 apart : (e : Elem) (v : Value) (raw text : List ℕ) → value_read e raw ≡ Some v → value_read e text ≡ None → bytes_eq raw text ≡ false
@@ -148,60 +128,28 @@ apart e v raw text h k = false_from_ne_true (bytes_eq raw text) (λ is.
 
 -- Values in their places
 
-text_case : (place : Place) (v : Value) → is_ranged v ≡ true → is_text (elem_of v) ≡ true → bytes_eq (value_text place v) (codes "-") ≡ false
+-- what holds of each text as it is written holds of a value that is one
+text_case : (P : List ℕ → Type 0) (place : Place) (v : Value) → ((t : List ℕ) → list_all is_byte t ≡ true → P (text_text place t)) → is_ranged v ≡ true → is_text (elem_of v) ≡ true → P (value_text place v)
 unfolding value_text
-text_case place (value.Text t) h k = text_no_dash place t h
-text_case place (value.Name t) h k = text_no_dash place t h
-text_case place (value.Bool b) h k = absurd cc
-text_case place (value.Count n) h k = absurd cc
-text_case place (value.Int z) h k = absurd cc
-text_case place (value.Time z) h k = absurd cc
-text_case place (value.Span z) h k = absurd cc
-text_case place (value.Addr a) h k = absurd cc
-text_case place (value.Subnet n) h k = absurd cc
-text_case place (value.Port p over) h k = absurd cc
-
-text_case_empty : (place : Place) (v : Value) → is_ranged v ≡ true → is_text (elem_of v) ≡ true → bytes_eq (value_text place v) (codes "(empty)") ≡ false
-unfolding value_text
-text_case_empty place (value.Text t) h k = text_no_empty place t h
-text_case_empty place (value.Name t) h k = text_no_empty place t h
-text_case_empty place (value.Bool b) h k = absurd cc
-text_case_empty place (value.Count n) h k = absurd cc
-text_case_empty place (value.Int z) h k = absurd cc
-text_case_empty place (value.Time z) h k = absurd cc
-text_case_empty place (value.Span z) h k = absurd cc
-text_case_empty place (value.Addr a) h k = absurd cc
-text_case_empty place (value.Subnet n) h k = absurd cc
-text_case_empty place (value.Port p over) h k = absurd cc
-
-text_case_comma : (v : Value) → is_text (elem_of v) ≡ true → list_all no_comma (value_text place.Element v) ≡ true
-unfolding value_text
-text_case_comma (value.Text t) k = text_no_comma t
-text_case_comma (value.Name t) k = text_no_comma t
-text_case_comma (value.Bool b) k = absurd cc
-text_case_comma (value.Count n) k = absurd cc
-text_case_comma (value.Int z) k = absurd cc
-text_case_comma (value.Time z) k = absurd cc
-text_case_comma (value.Span z) k = absurd cc
-text_case_comma (value.Addr a) k = absurd cc
-text_case_comma (value.Subnet n) k = absurd cc
-text_case_comma (value.Port p over) k = absurd cc
+text_case P place (value.Text t) of_text h k = of_text t h
+text_case P place (value.Name t) of_text h k = of_text t h
+text_case P place _ of_text h k = absurd cc
 
 value_no_dash : (place : Place) (v : Value) → is_ranged v ≡ true → bytes_eq (value_text place v) (codes "-") ≡ false
 value_no_dash place v h = elim (cases_Bool (is_text (elem_of v))) [
-  | inl text ↦ text_case place v h text
-  | inr plain ↦ apart (elem_of v) v (value_text place v) (codes "-") (plain_again place v h plain) (dash_unread (elem_of v) plain)
+  | inl text ↦ text_case (λ t. bytes_eq t (codes "-") ≡ false) place v (text_no_dash place) h text
+  | inr plain ↦ apart (elem_of v) v (value_text place v) (codes "-") (plain_again place v h plain) (marks_unread (elem_of v) plain).0
 ]
 
 value_no_empty : (place : Place) (v : Value) → is_ranged v ≡ true → bytes_eq (value_text place v) (codes "(empty)") ≡ false
 value_no_empty place v h = elim (cases_Bool (is_text (elem_of v))) [
-  | inl text ↦ text_case_empty place v h text
-  | inr plain ↦ apart (elem_of v) v (value_text place v) (codes "(empty)") (plain_again place v h plain) (empty_unread (elem_of v) plain)
+  | inl text ↦ text_case (λ t. bytes_eq t (codes "(empty)") ≡ false) place v (text_no_empty place) h text
+  | inr plain ↦ apart (elem_of v) v (value_text place v) (codes "(empty)") (plain_again place v h plain) (marks_unread (elem_of v) plain).1
 ]
 
 value_no_comma : (v : Value) → is_ranged v ≡ true → list_all no_comma (value_text place.Element v) ≡ true
 value_no_comma v h = elim (cases_Bool (is_text (elem_of v))) [
-  | inl text ↦ text_case_comma v text
+  | inl text ↦ text_case (λ t. list_all no_comma t ≡ true) place.Element v (λ t ranged. text_no_comma t) h text
   | inr plain ↦ all_weaker is_clean no_comma (λ b c. (clean_parts b c).0) (value_text place.Element v) (clean_value place.Element v h plain)
 ]
 
@@ -215,14 +163,7 @@ text_value_again : (place : Place) (v : Value) → is_ranged v ≡ true → is_t
 unfolding value_text value_read
 text_value_again place (value.Text t) h k = ap (λ (x : List ℕ). Some (value.Text x)) (text_again place t h)
 text_value_again place (value.Name t) h k = ap (λ (x : List ℕ). Some (value.Name x)) (text_again place t h)
-text_value_again place (value.Bool b) h k = absurd cc
-text_value_again place (value.Count n) h k = absurd cc
-text_value_again place (value.Int z) h k = absurd cc
-text_value_again place (value.Time z) h k = absurd cc
-text_value_again place (value.Span z) h k = absurd cc
-text_value_again place (value.Addr a) h k = absurd cc
-text_value_again place (value.Subnet n) h k = absurd cc
-text_value_again place (value.Port p over) h k = absurd cc
+text_value_again place _ h k = absurd cc
 
 set_again : (marks : Marks) (place : Place) (v : Value) → AreUsual marks → is_ranged v ≡ true → set_read marks (elem_of v) (value_text place v) ≡ Some v
 set_again marks place v u h = elim (cases_Bool (is_text (elem_of v))) [
@@ -336,16 +277,7 @@ other_whole v h = rw h refl
 empty_value_again : (v : Value) → is_empty_value v ≡ true → (is_text (elem_of v) ≡ true) × (empty_value (elem_of v) ≡ Some v)
 empty_value_again (value.Text []) h = (refl, refl)
 empty_value_again (value.Name []) h = (refl, refl)
-empty_value_again (value.Text (b ∷ bs)) h = absurd cc
-empty_value_again (value.Name (b ∷ bs)) h = absurd cc
-empty_value_again (value.Bool b) h = absurd cc
-empty_value_again (value.Count n) h = absurd cc
-empty_value_again (value.Int z) h = absurd cc
-empty_value_again (value.Time z) h = absurd cc
-empty_value_again (value.Span z) h = absurd cc
-empty_value_again (value.Addr a) h = absurd cc
-empty_value_again (value.Subnet n) h = absurd cc
-empty_value_again (value.Port p over) h = absurd cc
+empty_value_again _ h = absurd cc
 
 set_empty : (marks : Marks) (v : Value) → AreUsual marks → is_empty_value v ≡ true → set_read marks (elem_of v) (codes "(empty)") ≡ Some v
 set_empty marks v u h = let a = empty_value_again v h in rw (u.empty, a.0, a.1) refl
@@ -379,22 +311,9 @@ cell_again marks (kind.VecOf e) (cell.Many items) u h r =
 
 -- Printable ASCII
 
-text_case_printable : (place : Place) (v : Value) → is_ranged v ≡ true → is_text (elem_of v) ≡ true → list_all is_printable (value_text place v) ≡ true
-unfolding value_text
-text_case_printable place (value.Text t) h k = text_printable place t h
-text_case_printable place (value.Name t) h k = text_printable place t h
-text_case_printable place (value.Bool b) h k = absurd cc
-text_case_printable place (value.Count n) h k = absurd cc
-text_case_printable place (value.Int z) h k = absurd cc
-text_case_printable place (value.Time z) h k = absurd cc
-text_case_printable place (value.Span z) h k = absurd cc
-text_case_printable place (value.Addr a) h k = absurd cc
-text_case_printable place (value.Subnet n) h k = absurd cc
-text_case_printable place (value.Port p over) h k = absurd cc
-
 value_printable : (place : Place) (v : Value) → is_ranged v ≡ true → list_all is_printable (value_text place v) ≡ true
 value_printable place v h = elim (cases_Bool (is_text (elem_of v))) [
-  | inl text ↦ text_case_printable place v h text
+  | inl text ↦ text_case (λ t. list_all is_printable t ≡ true) place v (text_printable place) h text
   | inr plain ↦ all_weaker is_clean is_printable (λ b c. (clean_parts b c).1.1) (value_text place v) (clean_value place v h plain)
 ]
 

@@ -1,5 +1,5 @@
 -- Texts that were written are read again.
-use Rattle.std.proofs.Common.{◌≡◌, ℕ, ◌+◌, ◌*◌, ◌/◌, ◌%◌, ◌<◌, ◌≤◌, Bool, true, false, not, eqb, List, [], ◌∷◌, ◌++◌, refl, ap, sym, ◌∙◌, arith, inl, inr}
+use Rattle.std.proofs.Common.{◌≡◌, ℕ, ◌+◌, ◌*◌, ◌/◌, ◌%◌, ◌<◌, ◌≤◌, Bool, true, false, not, eqb, List, [], ◌∷◌, ◌++◌, refl, ap, sym, ◌∙◌, subst, arith, inl, inr}
 use Rattle.std.specs.Prelude.{codes, ◌==◌}
 use Rattle.std.specs.List.{list_all, flat_map}
 use Rattle.std.specs.Str.{bytes_eq}
@@ -11,6 +11,7 @@ use Rattle.value_writing.specs.declared.place.Place.TheVariants as place
 use Rattle.value_reading.specs.Addresses.{is_hexadecimal, digit_value}
 use Rattle.value_reading.specs.Escapes.{unescaped}
 use Rattle.value_writing.specs.Writing.{is_printable, hexadecimal, byte_escape, escaped_byte, byte_text, text_text}
+use Rattle.value_reading.proofs.EscapeLemmas.{other_stays, backslash_twice}
 use Rattle.value_writing.proofs.WritingNumbers.{both, all_append}
 
 -- a hexadecimal digit is one, and has its value
@@ -28,17 +29,6 @@ digit_again d h = elim (cases_lt d 10) [
 
 -- One byte
 
-pub other_again : (b : ℕ) (rest : List ℕ) → eqb b 92 ≡ false → unescaped (b ∷ rest) ≡ b ∷ unescaped rest
-other_again b [] h = refl
-other_again b (c ∷ []) h = rw h refl
-other_again b (c ∷ (d ∷ [])) h = rw h refl
-other_again b (c ∷ (d ∷ (e ∷ rest))) h = rw h refl
-
-backslash_again : (rest : List ℕ) → unescaped (92 ∷ (92 ∷ rest)) ≡ 92 ∷ unescaped rest
-backslash_again [] = refl
-backslash_again (c ∷ []) = refl
-backslash_again (c ∷ (d ∷ rest)) = refl
-
 escape_again : (b : ℕ) (rest : List ℕ) → b < 256 → unescaped (byte_escape b ++ rest) ≡ b ∷ unescaped rest
 escape_again b rest h =
     let high : b / 16 < 16 = omega arith in
@@ -48,9 +38,9 @@ escape_again b rest h =
 
 escaped_again : (b : ℕ) (rest : List ℕ) → b < 256 → unescaped (escaped_byte b ++ rest) ≡ b ∷ unescaped rest
 escaped_again b rest h = elim (cases_Bool (eqb b 92)) [
-  | inl is ↦ rw is (backslash_again rest ∙ ap (λ (x : ℕ). x ∷ unescaped rest) (sym (eqb-true b 92 is)))
+  | inl is ↦ rw is (backslash_twice rest ∙ ap (λ (x : ℕ). x ∷ unescaped rest) (sym (eqb-true b 92 is)))
   | inr other ↦ elim (cases_Bool (is_printable b)) [
-    | inl shown ↦ rw (other, shown) (other_again b rest other)
+    | inl shown ↦ rw (other, shown) (other_stays b rest other)
     | inr hidden ↦ rw (other, hidden) (escape_again b rest h)
   ]
 ]
@@ -86,6 +76,17 @@ empty_text place t h k = rw (h, k) refl
 other_text : (place : Place) (t : List ℕ) → bytes_eq t dash ≡ false → bytes_eq t empty ≡ false → text_text place t ≡ flat_map (byte_text place) t
 other_text place t h k = rw (h, k) refl
 
+-- what holds of the two escaped marks, and of the escapes of any other text, holds of a text as it is written
+text_by : (P : List ℕ → Type 0) (place : Place) (t : List ℕ) → P (codes "\\x2d") → P (codes "\\x28empty)")
+    → (bytes_eq t dash ≡ false → bytes_eq t empty ≡ false → P (flat_map (byte_text place) t)) → P (text_text place t)
+text_by P place t of_dash of_empty of_other = elim (cases_Bool (bytes_eq t dash)) [
+  | inl is ↦ subst P (sym (dash_text place t is)) of_dash
+  | inr other ↦ elim (cases_Bool (bytes_eq t empty)) [
+    | inl is ↦ subst P (sym (empty_text place t other is)) of_empty
+    | inr neither ↦ subst P (sym (other_text place t other neither)) (of_other other neither)
+  ]
+]
+
 pub text_again : (place : Place) (t : List ℕ) → list_all is_byte t ≡ true → unescaped (text_text place t) ≡ t
 text_again place t h = elim (cases_Bool (bytes_eq t dash)) [
   | inl is ↦ ap unescaped (dash_text place t is) ∙ sym ((bytes_eq-Decides t dash).0 is)
@@ -103,22 +104,10 @@ apart place t text h same differ = false_from_ne_true (bytes_eq (flat_map (byte_
     true≢false (sym ((bytes_eq-Decides t text).1 back) ∙ differ))
 
 pub text_no_dash : (place : Place) (t : List ℕ) → list_all is_byte t ≡ true → bytes_eq (text_text place t) dash ≡ false
-text_no_dash place t h = elim (cases_Bool (bytes_eq t dash)) [
-  | inl is ↦ ap (λ (x : List ℕ). bytes_eq x dash) (dash_text place t is)
-  | inr other ↦ elim (cases_Bool (bytes_eq t empty)) [
-    | inl is ↦ ap (λ (x : List ℕ). bytes_eq x dash) (empty_text place t other is)
-    | inr neither ↦ ap (λ (x : List ℕ). bytes_eq x dash) (other_text place t other neither) ∙ apart place t dash h refl other
-  ]
-]
+text_no_dash place t h = text_by (λ x. bytes_eq x dash ≡ false) place t refl refl (λ other neither. apart place t dash h refl other)
 
 pub text_no_empty : (place : Place) (t : List ℕ) → list_all is_byte t ≡ true → bytes_eq (text_text place t) empty ≡ false
-text_no_empty place t h = elim (cases_Bool (bytes_eq t dash)) [
-  | inl is ↦ ap (λ (x : List ℕ). bytes_eq x empty) (dash_text place t is)
-  | inr other ↦ elim (cases_Bool (bytes_eq t empty)) [
-    | inl is ↦ ap (λ (x : List ℕ). bytes_eq x empty) (empty_text place t other is)
-    | inr neither ↦ ap (λ (x : List ℕ). bytes_eq x empty) (other_text place t other neither) ∙ apart place t empty h refl neither
-  ]
-]
+text_no_empty place t h = text_by (λ x. bytes_eq x empty ≡ false) place t refl refl (λ other neither. apart place t empty h refl neither)
 
 -- Commas
 
@@ -151,13 +140,7 @@ bytes_no_comma [] = refl
 bytes_no_comma (b ∷ bs) = all_append no_comma (byte_text place.Element b) (flat_map (byte_text place.Element) bs) (byte_no_comma b) (bytes_no_comma bs)
 
 pub text_no_comma : (t : List ℕ) → list_all no_comma (text_text place.Element t) ≡ true
-text_no_comma t = elim (cases_Bool (bytes_eq t dash)) [
-  | inl is ↦ ap (list_all no_comma) (dash_text place.Element t is)
-  | inr other ↦ elim (cases_Bool (bytes_eq t empty)) [
-    | inl is ↦ ap (list_all no_comma) (empty_text place.Element t other is)
-    | inr neither ↦ ap (list_all no_comma) (other_text place.Element t other neither) ∙ bytes_no_comma t
-  ]
-]
+text_no_comma t = text_by (λ x. list_all no_comma x ≡ true) place.Element t refl refl (λ other neither. bytes_no_comma t)
 
 -- Printable ASCII
 
@@ -196,10 +179,4 @@ bytes_printable place (b ∷ bs) h =
     all_append is_printable (byte_text place b) (flat_map (byte_text place) bs) (byte_printable place b (ltb-true b 256 a.0)) (bytes_printable place bs a.1)
 
 pub text_printable : (place : Place) (t : List ℕ) → list_all is_byte t ≡ true → list_all is_printable (text_text place t) ≡ true
-text_printable place t h = elim (cases_Bool (bytes_eq t dash)) [
-  | inl is ↦ ap (list_all is_printable) (dash_text place t is)
-  | inr other ↦ elim (cases_Bool (bytes_eq t empty)) [
-    | inl is ↦ ap (list_all is_printable) (empty_text place t other is)
-    | inr neither ↦ ap (list_all is_printable) (other_text place t other neither) ∙ bytes_printable place t h
-  ]
-]
+text_printable place t h = text_by (λ x. list_all is_printable x ≡ true) place t refl refl (λ other neither. bytes_printable place t h)

@@ -67,17 +67,9 @@ module _ (before now : Outside) where
 
   pub does_refuse : (s : Status) (file query : List ℕ) (fault : QueryFault) → parsed query ≡ Err fault → now.opens ≡ before.opens
       → Refuses s fault before.writes now.writes before.written now.written → Does (Some (Scan file query)) before now (record { status = s; source = None })
-  does_refuse status.Done file query fault is same refuses = absurd refuses
-  does_refuse status.Usage file query fault is same refuses = absurd refuses
   does_refuse status.QueryRefused file query fault is same refuses = refused_so file query fault is same refuses
-  does_refuse status.OpenFault file query fault is same refuses = absurd refuses
-  does_refuse status.WriteFault file query fault is same refuses = absurd refuses
-  does_refuse status.ReadFault file query fault is same refuses = absurd refuses
-  does_refuse status.InputFault file query fault is same refuses = absurd refuses
-  does_refuse status.Full file query fault is same refuses = absurd refuses
-  does_refuse status.ScriptFault file query fault is same refuses = absurd refuses
   does_refuse status.Memory file query fault is same refuses = does_memory (Some (Scan file query)) refuses.0 (same, refuses.1)
-  does_refuse status.TooLong file query fault is same refuses = absurd refuses
+  does_refuse _ file query fault is same refuses = absurd refuses
 
   -- ---- where a file was to be opened
 
@@ -88,30 +80,14 @@ module _ (before now : Outside) where
   not_refused s known = λ is. subst IsOfFile is known
 
   of_command : (s : Status) → IsOfFile s → IsOfCommand s
-  of_command status.Done known = tt
-  of_command status.Usage known = tt
-  of_command status.QueryRefused known = tt
-  of_command status.OpenFault known = tt
-  of_command status.WriteFault known = tt
-  of_command status.ReadFault known = tt
-  of_command status.InputFault known = tt
   of_command status.Full known = known
   of_command status.ScriptFault known = known
-  of_command status.Memory known = tt
-  of_command status.TooLong known = tt
+  of_command _ known = tt
 
   early_so : (s : Status) (wanted : Wanted) → SaysUnopened (file_of wanted) s before now → SaysEarly (Some wanted) s before now
-  early_so status.Done wanted says = absurd says
-  early_so status.Usage wanted says = absurd says
-  early_so status.QueryRefused wanted says = absurd says
   early_so status.OpenFault wanted says = says
-  early_so status.WriteFault wanted says = absurd says
-  early_so status.ReadFault wanted says = absurd says
-  early_so status.InputFault wanted says = absurd says
-  early_so status.Full wanted says = absurd says
-  early_so status.ScriptFault wanted says = absurd says
   early_so status.Memory wanted says = says
-  early_so status.TooLong wanted says = absurd says
+  early_so _ wanted says = absurd says
 
   early_of : (source : Option Rest) (s : Status) (wanted : Wanted) → IfNone source (SaysUnopened (file_of wanted) s before now) → IfNone source (SaysEarly (Some wanted) s before now)
   early_of None s wanted says = early_so s wanted says
@@ -153,46 +129,32 @@ module _ (before now : Outside) where
   -- ---- a file
 
   report_known : (s : Status) → IsOfReport s → IsOfFile s
-  report_known status.Done known = tt
   report_known status.Usage known = absurd known
   report_known status.QueryRefused known = absurd known
-  report_known status.OpenFault known = tt
-  report_known status.WriteFault known = tt
-  report_known status.ReadFault known = tt
-  report_known status.InputFault known = tt
   report_known status.Full known = absurd known
   report_known status.ScriptFault known = absurd known
-  report_known status.Memory known = tt
-  report_known status.TooLong known = tt
+  report_known _ known = tt
 
   not_opening : (s : Status) → IsOfReport s → s ≢ status.OpenFault
   not_opening s known = λ is. subst IsOfReport is known
 
   report_stands : (s : Status) → IsOfReport s → now.opens ≡ before.opens → SinkStands s before.writes now.writes → StandsBy s before now
-  report_stands status.Done known same sink = (same, sink)
   report_stands status.Usage known same sink = absurd known
   report_stands status.QueryRefused known same sink = absurd known
   report_stands status.OpenFault known same sink = absurd known
   report_stands status.WriteFault known same sink = same
-  report_stands status.ReadFault known same sink = (same, sink)
-  report_stands status.InputFault known same sink = (same, sink)
   report_stands status.Full known same sink = absurd known
   report_stands status.ScriptFault known same sink = absurd known
-  report_stands status.Memory known same sink = (same, sink)
-  report_stands status.TooLong known same sink = (same, sink)
+  report_stands _ known same sink = (same, sink)
 
   report_opened : (s : Status) (rest : Rest) → IsOfReport s → WasOpened s (IsSome (Some rest))
-  report_opened status.Done rest known = refl
   report_opened status.Usage rest known = absurd known
   report_opened status.QueryRefused rest known = absurd known
   report_opened status.OpenFault rest known = absurd known
-  report_opened status.WriteFault rest known = refl
-  report_opened status.ReadFault rest known = refl
-  report_opened status.InputFault rest known = refl
   report_opened status.Full rest known = absurd known
   report_opened status.ScriptFault rest known = absurd known
   report_opened status.Memory rest known = tt
-  report_opened status.TooLong rest known = refl
+  report_opened _ rest known = refl
 
   pub reports_opened : (file : List ℕ) (text : Steps → List ℕ) (s : Status) (rest : Rest) (left : Option (List ℕ)) (faults : ℕ)
       → left ≡ before.bytes_of file → faults ≡ 0 → now.opens ≡ before.opens

@@ -6,6 +6,7 @@ use Rattle.std.proofs.Math.Seq.{take-append_seam}
 use Rattle.std.specs.Io.KnownBytes.{append_known, prepend_known}
 use Rattle.vast_io.specs.Causes.{Rose}
 use Rattle.vast_io.specs.Told.{WritesPart, IsAtEnd}
+use Rattle.vast_io.proofs.Reading.{prepend_behind}
 use Rattle.vast_io.proofs.Writing.{part_all, part_none, part_behind, part_longer, append_known-append, append_known-nil}
 use Rattle.vast_value.specs.Headings.{Heading}
 use Rattle.zeek_log.specs.declared.fault.ZeekFault.{ZeekFault}
@@ -30,10 +31,6 @@ use Rattle.vast.specs.Reports.{Moves, FitsLast, heading_after, status_of}
 prepend_known-nil : (known : Option (List ℕ)) → prepend_known [] known ≡ known
 prepend_known-nil None = refl
 prepend_known-nil (Some xs) = refl
-
-prepend_known-append : (known : Option (List ℕ)) (a b : List ℕ) → prepend_known a (prepend_known b known) ≡ prepend_known (a ++ b) known
-prepend_known-append None a b = refl
-prepend_known-append (Some xs) a b = ap Some (sym (append_assoc a b xs))
 
 -- what was taken of a source
 taken_is : (bytes took rest : List ℕ) → bytes ≡ took ++ rest → take (length bytes - length rest) bytes ≡ took
@@ -126,7 +123,7 @@ going_next whole behind held old new left mid now before written x so follows =
     let any : (more : List ℕ) (stop : Stop) → MayFollow old.state more stop = anything_follows old.state old new mid now x follows in
     record {
       took = so.took ++ on.took;
-      left = so.left ∙ ap (λ (k : Option (List ℕ)). prepend_known so.took k) on.left ∙ prepend_known-append now so.took on.took;
+      left = so.left ∙ ap (λ (k : Option (List ℕ)). prepend_known so.took k) on.left ∙ prepend_behind so.took on.took now;
       count = omega (arith, on.count, so.count, length-append so.took on.took);
       sent = so.sent;
       written = so.written;
@@ -221,15 +218,7 @@ IsCut _ = ⊥
 cut_text : (s : Status) (e : ZeekEnd) (text : List ℕ) (before now : Option (List ℕ)) → IsCut s → WritesPart before now text → TellsText s e text before now
 cut_text status.WriteFault e text before now cut part = part
 cut_text status.Memory e text before now cut part = part
-cut_text status.Done e text before now cut part = absurd cut
-cut_text status.ReadFault e text before now cut part = absurd cut
-cut_text status.TooLong e text before now cut part = absurd cut
-cut_text status.InputFault e text before now cut part = absurd cut
-cut_text status.Usage e text before now cut part = absurd cut
-cut_text status.QueryRefused e text before now cut part = absurd cut
-cut_text status.OpenFault e text before now cut part = absurd cut
-cut_text status.Full e text before now cut part = absurd cut
-cut_text status.ScriptFault e text before now cut part = absurd cut
+cut_text _ e text before now cut part = absurd cut
 
 not_below : (f g : ℕ) → g ≡ f → nat_lt f g ≡ false
 not_below f g same = grind (arith, nat_tests, same)
@@ -320,11 +309,11 @@ module _ (whole behind : Steps → List ℕ) (held : List ℕ) (old : Reading) (
   split_is : (bytes took rest : List ℕ) → left ≡ Some bytes → mid ≡ prepend_known took (Some rest) → bytes ≡ (so.took ++ took) ++ rest
   split_is bytes took rest at from =
       some_is bytes (so.took ++ took) rest
-      (sym at ∙ so.left ∙ ap (λ (k : Option (List ℕ)). prepend_known so.took k) from ∙ prepend_known-append (Some rest) so.took took)
+      (sym at ∙ so.left ∙ ap (λ (k : Option (List ℕ)). prepend_known so.took k) from ∙ prepend_behind so.took took (Some rest))
 
   not_known : (bytes took : List ℕ) → left ≡ Some bytes → mid ≡ prepend_known took None → ⊥
   not_known bytes took at from =
-      none_is bytes (so.took ++ took) (sym at ∙ so.left ∙ ap (λ (k : Option (List ℕ)). prepend_known so.took k) from ∙ prepend_known-append None so.took took)
+      none_is bytes (so.took ++ took) (sym at ∙ so.left ∙ ap (λ (k : Option (List ℕ)). prepend_known so.took k) from ∙ prepend_behind so.took took None)
 
   taken_in_all : (new : Reading) (took : List ℕ) → new.taken ≡ old.taken + length took → new.taken ≡ length (so.took ++ took)
   taken_in_all new took count = omega (arith, count, so.count, length-append so.took took)
@@ -434,10 +423,7 @@ is_memory _ = false
 
 memory_is : (e : ZeekEnd) → is_memory e ≡ true → e ≡ end.Memory
 memory_is end.Memory at = refl
-memory_is end.Done at = absurd (false_true at)
-memory_is (end.Fault l c w) at = absurd (false_true at)
-memory_is end.ReadFault at = absurd (false_true at)
-memory_is end.TooLong at = absurd (false_true at)
+memory_is _ at = absurd (false_true at)
 
 other_is : (e : ZeekEnd) → is_memory e ≡ false → e ≢ end.Memory
 other_is e at = λ memory. let no : true ≡ false = sym (ap is_memory memory) ∙ at in cc
@@ -565,14 +551,7 @@ reads_by : (s : Status) (e : ZeekEnd) (text : List ℕ) (written now : Option (L
 reads_by status.Done e text written now f g tells kept = kept (λ read. let no = sym tells.0 ∙ read in cc)
 reads_by status.TooLong e text written now f g tells kept = kept (λ read. let no = sym tells.0 ∙ read in cc)
 reads_by status.InputFault e text written now f g tells kept = kept (λ read. subst IsFault read tells.0)
-reads_by status.ReadFault e text written now f g tells kept = tt
-reads_by status.WriteFault e text written now f g tells kept = tt
-reads_by status.Memory e text written now f g tells kept = tt
-reads_by status.Usage e text written now f g tells kept = tt
-reads_by status.QueryRefused e text written now f g tells kept = tt
-reads_by status.OpenFault e text written now f g tells kept = tt
-reads_by status.Full e text written now f g tells kept = tt
-reads_by status.ScriptFault e text written now f g tells kept = tt
+reads_by _ e text written now f g tells kept = tt
 
 counts_kept : (st : State) (e : ZeekEnd) (f g : ℕ) → CountsOf st (Err e) f g → e ≢ end.ReadFault → g ≡ f
 counts_kept (Ended last) e f g counts other = counts
@@ -595,16 +574,7 @@ reads_well false st s e text written now f g at counts tells memory = reads_by s
 
 nothing_by : (s : Status) (e : ZeekEnd) (text : List ℕ) (written now left : Option (List ℕ)) → TellsText s e text written now → (e ≡ end.Done → IsAtEnd left) → LeavesNothing s left
 nothing_by status.Done e text written now left tells met = met tells.0
-nothing_by status.TooLong e text written now left tells met = tt
-nothing_by status.InputFault e text written now left tells met = tt
-nothing_by status.ReadFault e text written now left tells met = tt
-nothing_by status.WriteFault e text written now left tells met = tt
-nothing_by status.Memory e text written now left tells met = tt
-nothing_by status.Usage e text written now left tells met = tt
-nothing_by status.QueryRefused e text written now left tells met = tt
-nothing_by status.OpenFault e text written now left tells met = tt
-nothing_by status.Full e text written now left tells met = tt
-nothing_by status.ScriptFault e text written now left tells met = tt
+nothing_by _ e text written now left tells met = tt
 
 met_at : (st : State) (old new : Reading) (mid left_now : Option (List ℕ)) (e : ZeekEnd) → old.state ≡ st → is_open st ≡ true → IsMetAtLast old.state mid old.taken
     → Follows st old new mid left_now (Err e) → e ≡ end.Done → IsAtEnd left_now
@@ -627,42 +597,17 @@ leaves_nothing false st old new mid left_now s e text written now at is is_opene
 -- a sink that was not written to again
 pub sink_on : (s : Status) (a b c : ℕ) → SinkStands s b c → b ≡ a → SinkStands s a c
 sink_on status.WriteFault a b c stands same = tt
-sink_on status.Done a b c stands same = stands ∙ same
-sink_on status.TooLong a b c stands same = stands ∙ same
-sink_on status.InputFault a b c stands same = stands ∙ same
-sink_on status.ReadFault a b c stands same = stands ∙ same
-sink_on status.Memory a b c stands same = stands ∙ same
-sink_on status.Usage a b c stands same = stands ∙ same
-sink_on status.QueryRefused a b c stands same = stands ∙ same
-sink_on status.OpenFault a b c stands same = stands ∙ same
-sink_on status.Full a b c stands same = stands ∙ same
-sink_on status.ScriptFault a b c stands same = stands ∙ same
+sink_on _ a b c stands same = stands ∙ same
 
 pub cut_reads : (s : Status) (f g : ℕ) → IsCut s → ReadsWell s f g
 cut_reads status.WriteFault f g cut = tt
 cut_reads status.Memory f g cut = tt
-cut_reads status.Done f g cut = absurd cut
-cut_reads status.ReadFault f g cut = absurd cut
-cut_reads status.TooLong f g cut = absurd cut
-cut_reads status.InputFault f g cut = absurd cut
-cut_reads status.Usage f g cut = absurd cut
-cut_reads status.QueryRefused f g cut = absurd cut
-cut_reads status.OpenFault f g cut = absurd cut
-cut_reads status.Full f g cut = absurd cut
-cut_reads status.ScriptFault f g cut = absurd cut
+cut_reads _ f g cut = absurd cut
 
 pub cut_leaves : (s : Status) (left : Option (List ℕ)) → IsCut s → LeavesNothing s left
 cut_leaves status.WriteFault left cut = tt
 cut_leaves status.Memory left cut = tt
-cut_leaves status.Done left cut = absurd cut
-cut_leaves status.ReadFault left cut = absurd cut
-cut_leaves status.TooLong left cut = absurd cut
-cut_leaves status.InputFault left cut = absurd cut
-cut_leaves status.Usage left cut = absurd cut
-cut_leaves status.QueryRefused left cut = absurd cut
-cut_leaves status.OpenFault left cut = absurd cut
-cut_leaves status.Full left cut = absurd cut
-cut_leaves status.ScriptFault left cut = absurd cut
+cut_leaves _ left cut = absurd cut
 
 -- ---- what fits
 

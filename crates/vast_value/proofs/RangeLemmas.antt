@@ -1,5 +1,5 @@
 -- What is in its type's range is bounded where it is not too long.
-use Rattle.std.proofs.Common.{◌≡◌, Bool, true, false, ◌&&◌, refl, IsTrue, arith}
+use Rattle.std.proofs.Common.{◌≡◌, Bool, true, false, ◌&&◌, refl}
 use Rattle.vast_value.specs.declared.value.Value.{Value}
 use Rattle.vast_value.specs.Fit.{is_ranged, is_sized, is_bounded}
 

@@ -1,6 +1,6 @@
 -- What a layout says: its path, and the name and kind of each column. A layout keeps proofs besides, which no reader of
 -- its heading needs.
-use Rattle.std.specs.Prelude.{ℕ, ◌+◌, Bool, ◌&&◌, if◌then◌else◌, List, [], ◌∷◌, ◌++◌, Option, None, Some, map, nat_lt}
+use Rattle.std.specs.Prelude.{ℕ, ◌+◌, Bool, ◌&&◌, if◌then◌else◌, List, [], ◌∷◌, ◌++◌, Option, None, Some, map}
 use Rattle.std.specs.List.{list_any}
 use Rattle.std.specs.Cmp.Lexicographic.{pointwise}
 use Rattle.std.specs.Option.{option_or}
@@ -10,7 +10,7 @@ use Rattle.vast_value.specs.declared.cell.Cell.{Cell}
 use Rattle.vast_value.specs.declared.column.Column.{Column}
 use Rattle.vast_value.specs.declared.layout.Layout.{Layout}
 use Rattle.vast_value.specs.declared.layout.BadLayout.{BadLayout}
-use Rattle.vast_value.specs.declared.layout.BadLayout.TheVariants.{EmptyPath, NoColumns, TooManyColumns, EmptyName, SameName}
+use Rattle.vast_value.specs.declared.layout.BadLayout.TheVariants.{EmptyPath, NoColumns}
 use Rattle.vast_value.specs.Fit.{is_small}
 use Rattle.vast_value.specs.Kinds.{has_kind}
 use Rattle.vast_value.specs.Layouts.{is_empty, name_fault}

@@ -10,20 +10,22 @@ use Rattle.vast_value.specs.declared.cell.Cell.TheVariants.{One, Many, Unset}
 use Rattle.vast_value.specs.declared.value.Value.TheVariants.{Count, Text}
 use Rattle.vast_value.specs.declared.kind.Kind.{Kind}
 use Rattle.vast_value.specs.Headings.{Field, Heading}
+use Rattle.vast_value.specs.declared.layout.BadLayout.TheVariants as layouts
 use Rattle.value_text.specs.declared.Marks.{Marks}
 use Rattle.value_text.specs.Reading.{cell_read, value_read}
 use Rattle.value_text.specs.Writing.{cell_text, value_text}
 use Rattle.zeek_log.specs.declared.fault.At.{At}
 use Rattle.zeek_log.specs.declared.fault.ZeekFault.{ZeekFault}
 use Rattle.zeek_log.specs.declared.fault.ZeekFault.TheVariants.{NoHead, BadSeparator, FieldsTypes, TooManyColumns, EmptyName, SameName, UnknownKind, Floating, CellCount, BadCell, LineTooLong}
+use Rattle.zeek_log.specs.declared.step.ZeekEnd.{ZeekEnd}
 use Rattle.zeek_log.specs.declared.step.ZeekEnd.TheVariants.{Done, Fault, ReadFault, TooLong}
 use Rattle.zeek_log.specs.Going.{lines_left}
-use Rattle.zeek_log.specs.Heads.{Told, opened, opening, separator_of, name_fault, names_read, kind_read, kinds_read}
+use Rattle.zeek_log.specs.Heads.{Told, opened, opening, single_byte, separator_of, fault_of, name_fault, names_fault, unless_at, names_read, within_brackets, is_floating, kind_read, then_kind, kinds_read}
 use Rattle.zeek_log.specs.Laws.{IsWritable, written_log, is_plain, has_data_line}
-use Rattle.zeek_log.specs.Lines.{is_too_long, lines_of, pieces_of}
+use Rattle.zeek_log.specs.Lines.{is_too_long, last_line, lines_of, pieces_of}
 use Rattle.zeek_log.specs.Reader.{State, Reads, Last, Ended, Reading, EndsAs, Follows, MayFollow, IsMetAtLast, CountsOf, come_from, heading_told}
-use Rattle.zeek_log.specs.Steps.{Steps, steps_of, steps_of_source, taken_steps}
-use Rattle.zeek_log.specs.Table.{LogStep, Head, Line, Outcome, Goes, Gives, Breaks, line_outcome}
+use Rattle.zeek_log.specs.Steps.{Steps, ended, first, follow, steps_from, end_of, steps_of, steps_of_source, taken_steps}
+use Rattle.zeek_log.specs.Table.{LogStep, Head, Line, Outcome, Goes, Gives, Breaks, breaks_at, separator_told, set_separator_told, names_told, empty_told, unset_told, path_told, field_with, fields_with, head_told, fields_made, fields_read, fields_head, types_told, named_head, head_line, then_cell, cells_read, row_read, row_told, data_told, data_line, line_outcome}
 
 abbrev byte : ℕ → ℕ
 byte b = if b == 94 then 9 else (if b == 36 then 10 else b)
@@ -53,11 +55,25 @@ line_of_most line long = ap (nat_lt 1048576) long
 line_too_long : (line : List ℕ) → length line ≡ 1048577 → is_too_long line ≡ true
 line_too_long line long = ap (nat_lt 1048576) long
 
+-- what stands behind the last newline is a line, also an empty one, where all bytes are there; else only where it is too long
+last_lines : map (λ stop. map (last_line stop) (codes "a" ∷ ([] ∷ []))) (AtEnd ∷ (Failed ∷ (AtBound ∷ []))) ≡ ((codes "a" ∷ []) ∷ (([] ∷ []) ∷ [])) ∷ (([] ∷ ([] ∷ [])) ∷ (([] ∷ ([] ∷ [])) ∷ []))
+last_lines = refl
+
+a_last_line_that_is_too_long : (line : List ℕ) → length line ≡ 1048577 → (last_line Failed line ≡ line ∷ []) × (last_line AtBound line ≡ line ∷ [])
+a_last_line_that_is_too_long line long = let over : is_too_long line ≡ true = line_too_long line long in rw over (refl, refl)
+
 -- a text of cells, of which the second is empty
 cells : pieces_of 9 (text (codes "a^^b")) ≡ codes "a" ∷ ([] ∷ (codes "b" ∷ []))
 cells = refl
 
 -- Separators
+
+-- one byte as itself, whichever it is, or as `\\xHH`
+single_bytes : map single_byte (codes "," ∷ (codes "\\" ∷ (codes "\\x0a" ∷ (codes "\\xfF" ∷ [])))) ≡ Some 44 ∷ (Some 92 ∷ (Some 10 ∷ (Some 255 ∷ [])))
+single_bytes = refl
+
+no_single_bytes : map single_byte ([] ∷ (codes ",," ∷ (codes "\\x9" ∷ (codes "\\x0g" ∷ (codes "\\y09" ∷ (codes "/x09" ∷ (codes "\\x009" ∷ []))))))) ≡ None ∷ (None ∷ (None ∷ (None ∷ (None ∷ (None ∷ (None ∷ []))))))
+no_single_bytes = refl
 
 -- one byte, or a backslash, `x` and two digits in either case
 separators : map separator_of (codes "\\x09" ∷ (codes "\\x7C" ∷ (codes "\\x7c" ∷ (codes "," ∷ (codes "\\xfF" ∷ []))))) ≡ Some 9 ∷ (Some 124 ∷ (Some 124 ∷ (Some 44 ∷ (Some 255 ∷ []))))
@@ -81,6 +97,20 @@ name_empty = refl
 name_again : names_read (codes "a" ∷ (codes "b" ∷ (codes "a" ∷ []))) ≡ Err (at 3 SameName)
 name_again = refl
 
+-- the first bad one of the names is told, by its column; those before may stand in front of the list
+the_first_bad_name : map (names_fault 3 (codes "a" ∷ (codes "b" ∷ []))) ((codes "c" ∷ (codes "b" ∷ ([] ∷ []))) ∷ ((codes "c" ∷ (codes "c" ∷ [])) ∷ ((codes "c" ∷ (codes "d" ∷ [])) ∷ []))) ≡ Some (at 4 SameName) ∷ (Some (at 4 SameName) ∷ (None ∷ []))
+the_first_bad_name = refl
+
+the_257th_name : names_fault 256 [] (codes "a" ∷ (codes "a" ∷ [])) ≡ Some (at 257 TooManyColumns)
+the_257th_name = refl
+
+names_unless_one_is_bad : map (λ bad. unless_at bad (codes "a" ∷ [])) (None ∷ (Some (at 2 EmptyName) ∷ [])) ≡ Ok (codes "a" ∷ []) ∷ (Err (at 2 EmptyName) ∷ [])
+names_unless_one_is_bad = refl
+
+-- what is wrong with a layout, as a log's fault: without a path or a column there is no head
+faults_of_layouts : map fault_of (layouts.TooManyColumns ∷ (layouts.EmptyName 3 ∷ (layouts.SameName 3 ∷ (layouts.EmptyPath ∷ (layouts.NoColumns ∷ []))))) ≡ TooManyColumns ∷ (EmptyName ∷ (SameName ∷ (NoHead ∷ (NoHead ∷ []))))
+faults_of_layouts = refl
+
 -- there may be 256 names; that there is one more is told before all else of it
 name_256 : name_fault 256 [] (codes "a") ≡ None
 name_256 = refl
@@ -103,14 +133,31 @@ no_types = refl
 floating : map (kind_read 3) (codes "double" ∷ (codes "set[double]" ∷ (codes "vector[double]" ∷ []))) ≡ Err (at 3 Floating) ∷ (Err (at 3 Floating) ∷ (Err (at 3 Floating) ∷ []))
 floating = refl
 
+floating_alone : map is_floating (codes "double" ∷ (codes "set[double]" ∷ (codes "vector[double]" ∷ (codes "float" ∷ (codes "table[double]" ∷ (codes "set[set[double]]" ∷ (codes "doubles" ∷ []))))))) ≡ true ∷ (true ∷ (true ∷ (false ∷ (false ∷ (false ∷ (false ∷ []))))))
+floating_alone = refl
+
+-- between the front and the last bracket
+between_brackets : map (within_brackets (codes "set[")) (codes "set[int]" ∷ (codes "set[]" ∷ (codes "set[set[int]]" ∷ (codes "set[int" ∷ (codes "setint]" ∷ (codes "vector[int]" ∷ (codes "a set[int]" ∷ []))))))) ≡ Some (codes "int") ∷ (Some [] ∷ (Some (codes "set[int]") ∷ (None ∷ (None ∷ (None ∷ (None ∷ []))))))
+between_brackets = refl
+
+-- a kind is put before the others, and what is wrong with it is told before what is wrong with these
+a_kind_before_others : map (then_kind (Ok (kind.One elem.Int))) (Ok (kind.One elem.Bool ∷ []) ∷ (Err (at 2 Floating) ∷ [])) ≡ Ok (kind.One elem.Int ∷ (kind.One elem.Bool ∷ [])) ∷ (Err (at 2 Floating) ∷ [])
+a_kind_before_others = refl
+
+a_bad_kind_before_others : map (then_kind (Err (at 1 UnknownKind))) (Ok [] ∷ (Err (at 2 Floating) ∷ [])) ≡ Err (at 1 UnknownKind) ∷ (Err (at 1 UnknownKind) ∷ [])
+a_bad_kind_before_others = refl
+
 -- the first bad type is told
 type_of_column : kinds_read 1 (codes "count" ∷ (codes "double" ∷ (codes "float" ∷ []))) ≡ Err (at 2 Floating)
 type_of_column = refl
 
 -- Lines and what they do, behind a head of the path d with one column n of counts
 
+abbrev marks : ℕ → List ℕ → List ℕ → Marks
+marks set_separator empty unset = record { set_separator = set_separator; empty = empty; unset = unset }
+
 abbrev usual : Marks
-usual = record { set_separator = 44; empty = codes "(empty)"; unset = codes "-" }
+usual = marks 44 (codes "(empty)") (codes "-")
 
 abbrev heading : List ℕ → Heading
 heading path = record { path = path; fields = record { name = codes "n"; kind = kind.One elem.Count } ∷ [] }
@@ -120,6 +167,12 @@ told_with marks path name heading = record { separator = 9; marks = marks; path 
 
 abbrev told : Told
 told = told_with usual (codes "d") (codes "n") (Some (heading (codes "d")))
+
+abbrev two_fields : List Field
+two_fields = record { name = codes "n"; kind = kind.One elem.Count } ∷ (record { name = codes "s"; kind = kind.SetOf elem.Int } ∷ [])
+
+abbrev other_marks : Told
+other_marks = record { separator = 124; marks = marks 44 (codes "e") (codes "u"); path = codes "d"; names = codes "n" ∷ (codes "s" ∷ []); heading = None }
 
 -- a line by its text
 abbrev does : Told → List ℕ → Outcome
@@ -144,16 +197,16 @@ separator_none = refl
 separator_skipped : map (does told) (codes "#separator" ∷ (codes "#separator^," ∷ (codes "#" ∷ (codes "#open^x" ∷ [])))) ≡ Goes told ∷ (Goes told ∷ (Goes told ∷ (Goes told ∷ [])))
 separator_skipped = refl
 
-set_separator_line : does told (codes "#set_separator^;") ≡ Goes (told_with (record { set_separator = 59; empty = codes "(empty)"; unset = codes "-" }) (codes "d") (codes "n") (Some (heading (codes "d"))))
+set_separator_line : does told (codes "#set_separator^;") ≡ Goes (told_with (marks 59 (codes "(empty)") (codes "-")) (codes "d") (codes "n") (Some (heading (codes "d"))))
 set_separator_line = refl
 
 set_separator_bad : does told (codes "#set_separator^#") ≡ Breaks 0 BadSeparator
 set_separator_bad = refl
 
-empty_field_line : does told (codes "#empty_field^e^f") ≡ Goes (told_with (record { set_separator = 44; empty = text (codes "e^f"); unset = codes "-" }) (codes "d") (codes "n") (Some (heading (codes "d"))))
+empty_field_line : does told (codes "#empty_field^e^f") ≡ Goes (told_with (marks 44 (text (codes "e^f")) (codes "-")) (codes "d") (codes "n") (Some (heading (codes "d"))))
 empty_field_line = refl
 
-unset_field_line : does told (codes "#unset_field^u") ≡ Goes (told_with (record { set_separator = 44; empty = codes "(empty)"; unset = codes "u" }) (codes "d") (codes "n") (Some (heading (codes "d"))))
+unset_field_line : does told (codes "#unset_field^u") ≡ Goes (told_with (marks 44 (codes "(empty)") (codes "u")) (codes "d") (codes "n") (Some (heading (codes "d"))))
 unset_field_line = refl
 
 -- a new path ends no layout
@@ -216,7 +269,123 @@ data_bad = refl
 data_long : (line : List ℕ) → length line ≡ 1048576 → line_outcome opening (35 ∷ line) ≡ Breaks 0 LineTooLong
 data_long line long = let over : is_too_long (35 ∷ line) ≡ true = lt-ltb 1048576 (length (35 ∷ line)) (omega (arith, long)) in rw over refl
 
+-- The parts of the table
+
+a_fault_in_its_column : breaks_at (at 3 BadCell) ≡ Breaks 3 BadCell
+a_fault_in_its_column = refl
+
+-- a separator puts all back, and a set separator puts itself alone; none is a fault
+a_separator_puts_all_back : map separator_told (Some 124 ∷ (None ∷ [])) ≡ Goes (opened 124) ∷ (Breaks 0 BadSeparator ∷ [])
+a_separator_puts_all_back = refl
+
+a_set_separator_is_new_alone : map (set_separator_told told) (Some 59 ∷ (None ∷ [])) ≡ Goes (record told { marks = marks 59 (codes "(empty)") (codes "-") }) ∷ (Breaks 0 BadSeparator ∷ [])
+a_set_separator_is_new_alone = refl
+
+-- the text that is told is new alone
+texts_told : empty_told told (codes "e") ∷ (unset_told told (codes "e") ∷ (path_told told (codes "e") ∷ []))
+    ≡ Goes (record told { marks = marks 44 (codes "e") (codes "-") })
+    ∷ (Goes (record told { marks = marks 44 (codes "(empty)") (codes "e") })
+    ∷ (Goes (record told { path = codes "e" }) ∷ []))
+texts_told = refl
+
+-- names end the layout before them
+new_names_end_a_layout : map (names_told told) (Ok (codes "m" ∷ []) ∷ (Err (at 2 SameName) ∷ [])) ≡ Goes (told_with usual (codes "d") (codes "m") None) ∷ (Breaks 2 SameName ∷ [])
+new_names_end_a_layout = refl
+
+-- a head is told, and holds from there on
+a_head_is_told_and_holds : head_told told (heading (codes "e")) ≡ Gives (record told { heading = Some (heading (codes "e")) }) (Head (heading (codes "e")))
+a_head_is_told_and_holds = refl
+
+-- a head has the path that is told by then
+a_head_of_fields : map (fields_head (told_with usual (codes "e") (codes "n") None)) (Ok (field_with (codes "n") (kind.One elem.Count) ∷ []) ∷ (Err (at 1 Floating) ∷ []))
+    ≡ Gives (told_with usual (codes "e") (codes "n") (Some (heading (codes "e")))) (Head (heading (codes "e"))) ∷ (Breaks 1 Floating ∷ [])
+a_head_of_fields = refl
+
+-- each name goes with the kind at its place
+names_go_with_kinds_in_order : fields_with (codes "n" ∷ (codes "s" ∷ [])) (kind.One elem.Count ∷ (kind.SetOf elem.Int ∷ [])) ≡ two_fields
+names_go_with_kinds_in_order = refl
+
+fields_unless_a_kind_is_bad : map (fields_made (codes "n" ∷ (codes "s" ∷ []))) (Ok (kind.One elem.Count ∷ (kind.SetOf elem.Int ∷ [])) ∷ (Err (at 2 Floating) ∷ [])) ≡ Ok two_fields ∷ (Err (at 2 Floating) ∷ [])
+fields_unless_a_kind_is_bad = refl
+
+-- the number of types is told before a bad one, both of fewer and of more than names
+fields_of_types : map (fields_read (codes "n" ∷ (codes "s" ∷ []))) ((codes "count" ∷ (codes "set[int]" ∷ [])) ∷ ((codes "count" ∷ (codes "float" ∷ [])) ∷ ((codes "float" ∷ []) ∷ ((codes "count" ∷ (codes "float" ∷ (codes "int" ∷ []))) ∷ []))))
+    ≡ Ok two_fields ∷ (Err (at 2 UnknownKind) ∷ (Err (at 0 FieldsTypes) ∷ (Err (at 0 FieldsTypes) ∷ [])))
+fields_of_types = refl
+
+types_need_a_path : map (λ path. types_told (told_with usual path (codes "n") None) (codes "count" ∷ [])) (codes "e" ∷ ([] ∷ [])) ≡ Gives (told_with usual (codes "e") (codes "n") (Some (heading (codes "e")))) (Head (heading (codes "e"))) ∷ (Breaks 0 NoHead ∷ [])
+types_need_a_path = refl
+
+-- the line of each name, and one of no name here, whose value is skipped
+head_lines_by_name : map (λ name. named_head told name (codes "e")) (codes "#path" ∷ (codes "#empty_field" ∷ (codes "#unset_field" ∷ (codes "#fields" ∷ (codes "#types" ∷ (codes "#set_separator" ∷ (codes "#separator" ∷ (codes "#Path" ∷ []))))))))
+    ≡ Goes (record told { path = codes "e" })
+    ∷ (Goes (record told { marks = marks 44 (codes "e") (codes "-") })
+    ∷ (Goes (record told { marks = marks 44 (codes "(empty)") (codes "e") })
+    ∷ (Goes (told_with usual (codes "d") (codes "e") None)
+    ∷ (Breaks 1 UnknownKind
+    ∷ (Goes (record told { marks = marks 101 (codes "(empty)") (codes "-") })
+    ∷ (Goes told ∷ (Goes told ∷ [])))))))
+head_lines_by_name = refl
+
+-- a space behind `#separator`, and the separator that was told behind any other name, without which its value is empty
+head_lines_by_their_text : map (head_line other_marks) (codes "#separator ," ∷ (codes "#path|e|f" ∷ (codes "#path e" ∷ (codes "#path" ∷ []))))
+    ≡ Goes (opened 44) ∷ (Goes (record other_marks { path = codes "e|f" }) ∷ (Goes other_marks ∷ (Goes (record other_marks { path = [] }) ∷ [])))
+head_lines_by_their_text = refl
+
+-- a cell is put before the others, and what is wrong with it is told before what is wrong with these
+a_cell_before_others : map (then_cell 2 (Some Unset)) (Ok (Many [] ∷ []) ∷ (Err (at 3 BadCell) ∷ [])) ≡ Ok (Unset ∷ (Many [] ∷ [])) ∷ (Err (at 3 BadCell) ∷ [])
+a_cell_before_others = refl
+
+a_bad_cell_before_others : map (then_cell 2 None) (Ok [] ∷ (Err (at 3 BadCell) ∷ [])) ≡ Err (at 2 BadCell) ∷ (Err (at 2 BadCell) ∷ [])
+a_bad_cell_before_others = refl
+
+-- each text is read by the kind at its place, and the first bad one is told
+cells_of_texts : map (cells_read usual 3 two_fields) ((codes "7" ∷ (codes "-" ∷ [])) ∷ ((codes "7" ∷ (codes "x" ∷ [])) ∷ ((codes "x" ∷ (codes "y" ∷ [])) ∷ []))) ≡ Ok (One (Count 7) ∷ (Unset ∷ [])) ∷ (Err (at 4 BadCell) ∷ (Err (at 3 BadCell) ∷ []))
+unfolding cell_read value_read
+cells_of_texts = refl
+
+-- the number of cells is told before a bad one, both of fewer and of more than columns
+rows_of_texts : map (row_read usual two_fields) ((codes "7" ∷ (codes "-" ∷ [])) ∷ ((codes "7" ∷ (codes "x" ∷ [])) ∷ ((codes "x" ∷ []) ∷ ((codes "7" ∷ (codes "x" ∷ (codes "1" ∷ []))) ∷ [])))) ≡ Ok (One (Count 7) ∷ (Unset ∷ [])) ∷ (Err (at 2 BadCell) ∷ (Err (at 0 CellCount) ∷ (Err (at 0 CellCount) ∷ [])))
+unfolding cell_read value_read
+rows_of_texts = refl
+
+a_row_leaves_what_was_told : map (row_told told) (Ok (Unset ∷ []) ∷ (Err (at 1 BadCell) ∷ [])) ≡ Gives told (Line (Unset ∷ [])) ∷ (Breaks 1 BadCell ∷ [])
+a_row_leaves_what_was_told = refl
+
+-- a row is read by the layout, the separator and the marks that were told
+rows_need_names_and_types : data_told other_marks (Some (record { path = codes "d"; fields = two_fields })) (codes "7|u") ∷ (data_told told None (codes "7") ∷ (data_told opening None (codes "7") ∷ []))
+    ≡ Gives other_marks (Line (One (Count 7) ∷ (Unset ∷ []))) ∷ (Breaks 0 FieldsTypes ∷ (Breaks 0 NoHead ∷ []))
+unfolding cell_read value_read
+rows_need_names_and_types = refl
+
+rows_need_a_path : data_line told (codes "7") ∷ (data_line (told_with usual [] (codes "n") (Some (heading (codes "d")))) (codes "7") ∷ []) ≡ Gives told (Line (One (Count 7) ∷ [])) ∷ (Breaks 0 NoHead ∷ [])
+unfolding cell_read value_read
+rows_need_a_path = refl
+
 -- Whole logs
+
+why_a_log_ends : map end_of (AtEnd ∷ (Failed ∷ (AtBound ∷ []))) ≡ Done ∷ (ReadFault ∷ (TooLong ∷ []))
+why_a_log_ends = refl
+
+abbrev steps : List LogStep → ZeekEnd → Steps
+steps given end = record { given = given; end = end }
+
+an_end_gives_no_step : ended (Fault 5 2 BadCell) ≡ steps [] (Fault 5 2 BadCell)
+an_end_gives_no_step = refl
+
+a_step_before_others : first (Line (Unset ∷ [])) (steps (Line [] ∷ []) ReadFault) ≡ steps (Line (Unset ∷ []) ∷ (Line [] ∷ [])) ReadFault
+a_step_before_others = refl
+
+-- other lines follow in the state that is told, and none follows a fault
+a_line_and_the_others : map (λ outcome. follow 5 outcome (λ now. steps (Head (heading now.path) ∷ []) Done)) (Goes told ∷ (Gives told (Line []) ∷ (Breaks 2 BadCell ∷ [])))
+    ≡ steps (Head (heading (codes "d")) ∷ []) Done ∷ (steps (Line [] ∷ (Head (heading (codes "d")) ∷ [])) Done ∷ (steps [] (Fault 5 2 BadCell) ∷ []))
+a_line_and_the_others = refl
+
+-- each line counts, also one that is skipped
+steps_of_lines : map (steps_from 4 ReadFault told) ([] ∷ ((codes "7" ∷ ([] ∷ (codes "8" ∷ []))) ∷ ((codes "7" ∷ ([] ∷ (codes "x" ∷ (codes "8" ∷ [])))) ∷ [])))
+    ≡ steps [] ReadFault ∷ (steps (Line (One (Count 7) ∷ []) ∷ (Line (One (Count 8) ∷ []) ∷ [])) ReadFault ∷ (steps (Line (One (Count 7) ∷ []) ∷ []) (Fault 6 1 BadCell) ∷ []))
+unfolding cell_read value_read
+steps_of_lines = refl
 
 abbrev log : List ℕ
 log = text (codes "#path^d$#fields^n$#types^count$7$8")

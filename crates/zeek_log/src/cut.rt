@@ -16,10 +16,8 @@ pub fn newline_from(bytes: &[u8], from: usize) -> Option<usize>
     ensures { IsFirstByte (is_byte 10) bytes.now result }
 {
     let (_, rest) = bytes.split_at(from);
-    match memchr(b'\n', rest) {
-        Some(at) => Some(from + at),
-        None => None,
-    }
+    let at = memchr(b'\n', rest)?;
+    Some(from + at)
 }
 
 /// Whether a backslash is among the bytes.

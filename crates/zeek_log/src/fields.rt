@@ -45,13 +45,11 @@ fn name_fault(before: &[Bytes], name: &[u8]) -> Option<At>
     requires { length before.now ≤ 2 ^ 24 }
     ensures { result ≡ name_fault (length before.now + 1) before.now name.now }
 {
-    match vast_value::name_fault(before.len(), name, is_among(before, name)) {
-        Some(bad) => Some(At {
-            column: before.len() as u32 + 1,
-            what: fault_of(bad),
-        }),
-        None => None,
-    }
+    let column = before.len() as u32 + 1;
+    vast_value::name_fault(before.len(), name, is_among(before, name)).map(|bad| At {
+        column,
+        what: fault_of(bad),
+    })
 }
 
 /// What a log's fault is where names make no layout.

@@ -197,13 +197,12 @@ impl LineReader {
         ensures kept { self.new.kept ≤ most_kept }
     {
         let outcome = take_line(alloc, &mut self.known, self.block.as_slice());
-        match answer_of(self.line, outcome) {
-            Ok(Some(step)) => {
+        match answer_of(self.line, outcome)? {
+            Some(step) => {
                 self.phase = Phase::Last;
                 Ok(Some(step))
             }
-            Ok(None) => Err(ZeekEnd::Done),
-            Err(end) => Err(end),
+            None => Err(ZeekEnd::Done),
         }
     }
 }

@@ -52,19 +52,13 @@ fn kind_named(name: &[u8]) -> Option<Kind>
     if let Some(elem) = elem_within(b"set[", name) {
         return Some(Kind::SetOf(elem));
     }
-    match elem_within(b"vector[", name) {
-        Some(elem) => Some(Kind::VecOf(elem)),
-        None => None,
-    }
+    elem_within(b"vector[", name).map(Kind::VecOf)
 }
 
 fn elem_within(front: &[u8], name: &[u8]) -> Option<Elem>
     ensures { result ≡ option_and_then elem_named (within_brackets front.now name.now) }
 {
-    match within_brackets(front, name) {
-        Some(inner) => Elem::named(inner),
-        None => None,
-    }
+    within_brackets(front, name).and_then(Elem::named)
 }
 
 fn within_brackets<'a>(front: &[u8], name: &'a [u8]) -> Option<&'a [u8]>
@@ -85,9 +79,7 @@ fn within_brackets<'a>(front: &[u8], name: &'a [u8]) -> Option<&'a [u8]>
 pub fn separator_of(value: &[u8]) -> Option<u8>
     ensures { result ≡ separator_of value.now }
 {
-    let Some(byte) = single_byte(value) else {
-        return None;
-    };
+    let byte = single_byte(value)?;
     if byte == b'\n' || (byte == b'#' || byte == b'\\') {
         return None;
     }
