@@ -6,6 +6,7 @@ pub mod LawLemmas
 pub mod LineLemmas
 pub mod NearLemmas
 pub mod PieceLemmas
+pub mod PlainLemmas
 pub mod RowLawLemmas
 mod Vectors
 pub mod WrittenLemmas

@@ -6,6 +6,7 @@ pub mod Heads
 pub mod Laws
 pub mod Lines
 pub mod Naming
+pub mod Plain
 pub mod Reader
 pub mod Steps
 pub mod Table

@@ -18,6 +18,7 @@ mod line_reader;
 mod names;
 mod near;
 mod opening;
+mod plain;
 mod reader;
 mod step;
 #[cfg(test)]

@@ -1,0 +1,239 @@
+-- A line whose cells are seen to be well spelled is a row.
+use Rattle.std.proofs.Common.{◌≡◌, ◌≢◌, ℕ, zero, suc, ◌+◌, ◌-◌, ◌<◌, ◌≤◌, Bool, true, false, cond, eqb, List, [], ◌∷◌, ◌++◌, Option, None, Some, Result, Ok, Err, length, take, drop, get_or, map, refl, ap, sym, ◌∙◌, subst, arith, length-append, add-one}
+use Rattle.std.specs.Prelude.{IsSome, ◌==◌}
+use Rattle.std.specs.List.{position_or_len, slice_split}
+use Rattle.std.specs.Option.{option_and_then, option_map, is_some}
+use Rattle.std.specs.Str.{bytes_eq}
+use Rattle.std.proofs.lemmas.Bool.{eq-eqb, le-ltb, ne_eqb}
+use Rattle.std.proofs.lemmas.List.{drop-take, get_or-take, length-drop, length-take-le, take-take, take_all}
+use Rattle.std.proofs.Math.Seq.{drop-cons, get_or-append_seam}
+use Rattle.std.proofs.lemmas.List.Sums.{fails_before_first, passes_at_first}
+use Rattle.memchr.specs.Find.{IsFirstByte, is_byte}
+use Rattle.vast_value.specs.declared.kind.Elem.{Elem}
+use Rattle.vast_value.specs.declared.kind.Elem.TheVariants as elem
+use Rattle.vast_value.specs.declared.column.Column.{Column}
+use Rattle.vast_value.specs.declared.kind.Kind.{Kind}
+use Rattle.vast_value.specs.declared.kind.Kind.TheVariants as kind
+use Rattle.vast_value.specs.declared.value.Value.{Value}
+use Rattle.vast_value.specs.declared.value.Value.TheVariants as value
+use Rattle.vast_value.specs.declared.cell.Cell.{Cell}
+use Rattle.vast_value.specs.declared.cell.Cell.TheVariants as cell
+use Rattle.vast_value.specs.Headings.{Field, Heading, field_of}
+use Rattle.vast_value.specs.Layouts.{is_empty}
+use Rattle.value_reading.specs.declared.marks.Marks.{Marks}
+use Rattle.value_reading.specs.Escapes.{unescaped}
+use Rattle.value_reading.specs.Reading.{cell_read, container_read, element_read, elements_read, empty_value, is_text, kind_read, set_read, value_read}
+use Rattle.plain_cells.specs.Places.{CutsLine, cut_at, places_of}
+use Rattle.plain_cells.specs.Readable.{IsReadable}
+use Rattle.plain_cells.proofs.PlaceLemmas.{pieces_stand_between}
+use Rattle.zeek_log.specs.declared.fault.At.{At}
+use Rattle.zeek_log.specs.Heads.{Told}
+use Rattle.zeek_log.specs.Lines.{is_newline, is_too_long, pieces_of}
+use Rattle.zeek_log.specs.Plain.{AreRead, IsPlain, cells_or_none, cut_before, is_of_texts, line_end, row_in, row_under}
+use Rattle.zeek_log.specs.Table.{Gives, Line, Outcome, cells_read, data_line, data_told, line_outcome, row_read, row_told, then_cell}
+
+-- ---- cells of texts read whatever they are
+
+empty_or : (t : Bool) (marks : Marks) (e : Elem) (raw : List ℕ) → is_text e ≡ true → (v : Value) × (cond t (empty_value e) (value_read e (unescaped raw)) ≡ Some v)
+unfolding value_read
+empty_or true marks elem.Text raw text = (value.Text [], refl)
+empty_or true marks elem.Name raw text = (value.Name [], refl)
+empty_or false marks elem.Text raw text = (value.Text (unescaped raw), refl)
+empty_or false marks elem.Name raw text = (value.Name (unescaped raw), refl)
+empty_or t marks elem.Bool raw text = cc
+empty_or t marks elem.Count raw text = cc
+empty_or t marks elem.Int raw text = cc
+empty_or t marks elem.Time raw text = cc
+empty_or t marks elem.Span raw text = cc
+empty_or t marks elem.Addr raw text = cc
+empty_or t marks elem.Subnet raw text = cc
+empty_or t marks elem.Port raw text = cc
+
+text_set : (marks : Marks) (e : Elem) (raw : List ℕ) → is_text e ≡ true → (v : Value) × (set_read marks e raw ≡ Some v)
+text_set marks e raw text = rw text (empty_or (bytes_eq raw marks.empty) marks e raw text)
+
+element_some : (t : Bool) (marks : Marks) (e : Elem) (raw : List ℕ) → is_text e ≡ true → (x : Option Value) × (cond t (Some None) (option_map Some (set_read marks e raw)) ≡ Some x)
+element_some true marks e raw text = (None, refl)
+element_some false marks e raw text = let v = text_set marks e raw text in (Some v.0, ap (option_map Some) v.1)
+
+elements_some : (marks : Marks) (e : Elem) (raws : List (List ℕ)) → is_text e ≡ true → (xs : List (Option Value)) × (elements_read marks e raws ≡ Some xs)
+elements_some marks e [] text = ([], refl)
+elements_some marks e (raw ∷ raws) text =
+    let x = element_some (bytes_eq raw marks.unset) marks e raw text in
+    let xs = elements_some marks e raws text in
+    (x.0 ∷ xs.0, ap (option_and_then (λ y. option_map (λ ys. y ∷ ys) (elements_read marks e raws))) x.1 ∙ ap (option_map (λ ys. x.0 ∷ ys)) xs.1)
+
+some_map : {X Y : Type 0} (f : X → Y) (o : Option X) (x : X) → o ≡ Some x → IsSome (option_map f o)
+some_map {X = X} f o x is = ap (λ (p : Option X). is_some (option_map f p)) is
+
+container_some : (marks : Marks) (e : Elem) (raw : List ℕ) → is_text e ≡ true → IsSome (container_read marks e raw)
+container_some marks e raw text =
+    let rest : IsSome (option_map cell.Many (elements_read marks e (slice_split (λ b. b == marks.set_separator) raw))) =
+    (let xs = elements_some marks e (slice_split (λ b. b == marks.set_separator) raw) text in some_map cell.Many _ xs.0 xs.1) in
+    elim (bytes_eq raw marks.empty) as (λ t. IsSome (cond t (Some (cell.Many [])) (option_map cell.Many (elements_read marks e (slice_split (λ b. b == marks.set_separator) raw))))) [
+      | true ↦ refl
+      | false ↦ rest
+    ]
+
+kind_some : (marks : Marks) (k : Kind) (raw : List ℕ) → is_of_texts k ≡ true → IsSome (kind_read marks k raw)
+kind_some marks (kind.One e) raw text = let v = text_set marks e raw text in some_map cell.One _ v.0 v.1
+kind_some marks (kind.SetOf e) raw text = container_some marks e raw text
+kind_some marks (kind.VecOf e) raw text = container_some marks e raw text
+
+pub texts_readable : (k : Kind) (raw : List ℕ) → is_of_texts k ≡ true → IsReadable k raw
+unfolding cell_read
+texts_readable k raw text marks =
+    let set : IsSome (kind_read marks k raw) = kind_some marks k raw text in
+    elim (bytes_eq raw marks.unset) as (λ t. IsSome (cond t (Some cell.Unset) (kind_read marks k raw))) [ true ↦ refl | false ↦ set ]
+
+pub unset_read : (marks : Marks) (k : Kind) (raw : List ℕ) → bytes_eq raw marks.unset ≡ true → IsSome (cell_read marks k raw)
+unfolding cell_read
+unset_read marks k raw is = rw is refl
+
+-- ---- raw texts that read make a row
+
+some_is : {X : Type 0} (o : Option X) → IsSome o → (x : X) × (o ≡ Some x)
+some_is None some = cc
+some_is (Some x) some = (x, refl)
+
+all_read : (marks : Marks) (n : ℕ) (fields : List Field) (raws : List (List ℕ)) → length raws ≡ length fields → AreRead marks fields raws
+    → (cells : List Cell) × (cells_read marks n fields raws ≡ Ok cells)
+all_read marks n [] raws same are = ([], refl)
+all_read marks n (f ∷ fs) [] same are = absurd (omega arith)
+all_read marks n (f ∷ fs) (r ∷ rs) same are =
+    let x = some_is (cell_read marks f.kind r) are.0 in
+    let xs = all_read marks (n + 1) fs rs (omega arith) are.1 in
+    (x.0 ∷ xs.0, ap (λ (o : Option Cell). then_cell n o (cells_read marks (n + 1) fs rs)) x.1 ∙ ap (then_cell n (Some x.0)) xs.1)
+
+-- ---- a data line
+
+data_outcome : (told : Told) (line : List ℕ) → 0 < length line → length line ≤ 1048576 → get_or line 0 0 ≢ 35 → line_outcome told line ≡ data_line told line
+data_outcome told [] some few other = absurd (omega arith)
+data_outcome told (b ∷ bs) some few other =
+    let short : is_too_long (b ∷ bs) ≡ false = le-ltb 1048576 (length (b ∷ bs)) few in
+    let no_head : (b == 35) ≡ false = ne_eqb b 35 other in
+    rw (short, no_head)
+
+path_told : (told : Told) (b : Bool) (line : List ℕ) → is_empty told.path ≡ b → b ≡ false → data_line told line ≡ data_told told told.heading line
+path_told told b line is some = rw (is ∙ some) refl
+
+row_outcome : (told : Told) (heading : Heading) (line : List ℕ) (cells : List Cell) → told.heading ≡ Some heading → is_empty told.path ≡ false
+    → row_read told.marks heading.fields (pieces_of told.separator line) ≡ Ok cells → data_line told line ≡ Gives told (Line cells)
+row_outcome told heading line cells stands path read =
+    path_told told (is_empty told.path) line refl path
+    ∙ ap (λ (h : Option Heading). data_told told h line) stands ∙ ap (row_told told) read
+
+pub path_some : (xs : List ℕ) (b : Bool) → b ≡ (length xs == 0) → b ≡ false → is_empty xs ≡ false
+path_some [] b is none = cc
+path_some (x ∷ xs) b is none = refl
+
+same_count : (marks : Marks) (fields : List Field) (raws : List (List ℕ)) → length raws ≡ length fields → row_read marks fields raws ≡ cells_read marks 1 fields raws
+same_count marks fields raws same =
+    let is : (length raws == length fields) ≡ true = eq-eqb (length raws) (length fields) same in
+    rw is
+
+cut_all : (places : List ℕ) (from : ℕ) (text : List ℕ) → cut_at places from text ≡ cut_before (places ++ length text ∷ []) from text
+cut_all [] from text = ap (λ (r : List ℕ). r ∷ []) (sym (take_all (length text - from) (drop from text) (omega (arith, length-drop from text))))
+cut_all (to ∷ more) from text = ap (λ (rs : List (List ℕ)). take (to - from) (drop from text) ∷ rs) (cut_all more (to + 1) text)
+
+length-cut_before : (places : List ℕ) (from : ℕ) (text : List ℕ) → length (cut_before places from text) ≡ length places
+length-cut_before [] from text = refl
+length-cut_before (to ∷ more) from text = ap suc (length-cut_before more (to + 1) text)
+
+-- ---- the places of a line
+
+module _ (separator : ℕ) (text places : List ℕ) (count : ℕ) (cuts : CutsLine separator text places count) where
+  abbrev newline_at : ℕ
+  newline_at = position_or_len is_newline text
+
+  abbrev marks_before : List ℕ
+  marks_before = places_of (λ b. b == separator) 0 (take newline_at text)
+
+  count_is : count ≡ length marks_before + 1
+  count_is = omega (arith, ap length cuts.are, length-take-le count places cuts.within, length-append marks_before (newline_at ∷ []))
+
+  pub some_places : 0 < count
+  some_places = omega (arith, count_is)
+
+  pub end_is : line_end places count ≡ newline_at
+  end_is =
+      sym (get_or-take count places (count - 1) 0 (omega (arith, count_is))) ∙ ap (λ (ps : List ℕ). get_or ps (count - 1) 0) cuts.are
+      ∙ ap (λ (k : ℕ). get_or (marks_before ++ newline_at ∷ []) k 0) (omega (arith, count_is)) ∙ get_or-append_seam marks_before newline_at [] 0
+
+  pub end_found : IsFirstByte (is_byte 10) text (Some newline_at)
+  end_found = (
+    record { low = omega arith; high = cuts.newline; before = λ k low below passes. let no = sym passes ∙ fails_before_first (is_byte 10) text k 0 below in cc },
+    passes_at_first (is_byte 10) text 0 cuts.newline,
+  )
+
+  line_length : length (take newline_at text) ≡ newline_at
+  line_length = length-take-le newline_at text (omega (arith, cuts.newline))
+
+  pub pieces_are : pieces_of separator (take newline_at text) ≡ cut_before (take count places) 0 (take newline_at text)
+  pieces_are =
+      sym (pieces_stand_between (λ b. b == separator) (take newline_at text)) ∙ cut_all marks_before 0 (take newline_at text)
+      ∙ ap (λ (n : ℕ). cut_before (marks_before ++ n ∷ []) 0 (take newline_at text)) line_length
+      ∙ ap (λ (ps : List ℕ). cut_before ps 0 (take newline_at text)) (sym cuts.are)
+
+  pub pieces_count : length (pieces_of separator (take newline_at text)) ≡ count
+  pieces_count = ap length pieces_are ∙ length-cut_before (take count places) 0 (take newline_at text) ∙ length-take-le count places cuts.within
+
+  pub front_stays : 0 < newline_at → get_or (take newline_at text) 0 0 ≡ get_or text 0 0
+  front_stays some = get_or-take newline_at text 0 0 some
+
+-- what is found of a line makes it plain
+module _ (told : Told) (heading : Heading) (text places : List ℕ) (count : ℕ) (cuts : CutsLine told.separator text places count)
+    (stands : told.heading ≡ Some heading) (path : is_empty told.path ≡ false) (same : count ≡ length heading.fields) where
+  plain_at : (e : ℕ) → e ≡ position_or_len is_newline text → (0 < e) × (e ≤ 1048576) × (e + 64 ≤ length text) × (get_or text 0 0 ≢ 35)
+      → AreRead told.marks heading.fields (cut_before (take count places) 0 (take e text))
+      → (cells : List Cell) × (row_in told (take e text) ≡ Ok cells) × (line_outcome told (take e text) ≡ Gives told (Line cells))
+  plain_at e is row are =
+      let line = take e text in
+      let long : length line ≡ e = length-take-le e text (omega (arith, row.2)) in
+      let pieces : pieces_of told.separator line ≡ cut_before (take count places) 0 line =
+      subst (λ (k : ℕ). pieces_of told.separator (take k text) ≡ cut_before (take count places) 0 (take k text)) (sym is) (pieces_are told.separator text places count cuts) in
+      let many : length (pieces_of told.separator line) ≡ length heading.fields =
+      subst (λ (k : ℕ). length (pieces_of told.separator (take k text)) ≡ count) (sym is) (pieces_count told.separator text places count cuts) ∙ same in
+      let all = all_read told.marks 1 heading.fields (pieces_of told.separator line) many
+      (subst (λ (rs : List (List ℕ)). AreRead told.marks heading.fields rs) (sym pieces) are) in
+      let read : row_read told.marks heading.fields (pieces_of told.separator line) ≡ Ok all.0 =
+      same_count told.marks heading.fields (pieces_of told.separator line) many ∙ all.1 in
+      let front : get_or line 0 0 ≢ 35 = subst (λ (b : ℕ). b ≢ 35) (sym (get_or-take e text 0 0 row.0)) row.3 in (
+        all.0,
+        ap (λ (h : Option Heading). row_under told h line) stands ∙ read,
+        data_outcome told line (omega (arith, long, row.0)) (omega (arith, long, row.1)) front ∙ row_outcome told heading line all.0 stands path read,
+      )
+
+  pub plain_is : (0 < line_end places count) × (line_end places count ≤ 1048576) × (line_end places count + 64 ≤ length text) × (get_or text 0 0 ≢ 35)
+      → AreRead told.marks heading.fields (cut_before (take count places) 0 (take (line_end places count) text)) → IsPlain told text places count
+  plain_is row are =
+      let is = end_is told.separator text places count cuts in
+      let line = take (line_end places count) text in
+      let at = plain_at (line_end places count) is row are in
+      let cells : at.0 ≡ cells_or_none (row_in told line) = ap cells_or_none (sym at.1) in
+      record {
+        found = subst (λ (k : ℕ). IsFirstByte (is_byte 10) text (Some k)) (sym is) (end_found told.separator text places count cuts);
+        pieces = subst (λ (k : ℕ). pieces_of told.separator (take k text) ≡ cut_before (take count places) 0 (take k text)) (sym is) (pieces_are told.separator text places count cuts);
+        row = at.1 ∙ ap Ok cells;
+        gives = at.2 ∙ ap (λ (xs : List Cell). Gives told (Line xs)) cells;
+      }
+
+-- ---- cell by cell
+
+-- one more cell reads
+pub read_on : (marks : Marks) (columns : List Column) (column : Column) (places text : List ℕ) (at from to count : ℕ)
+    → at < length columns → length columns ≤ length places → drop at columns ≡ column ∷ drop (at + 1) columns
+    → to ≡ get_or places at 0 → from ≤ to → to ≤ count → IsSome (cell_read marks column.kind (take (to - from) (drop from text)))
+    → AreRead marks (map field_of (drop (at + 1) columns)) (cut_before (drop (at + 1) (take (length columns) places)) (to + 1) (take count text))
+    → AreRead marks (map field_of (drop at columns)) (cut_before (drop at (take (length columns) places)) from (take count text))
+read_on marks columns column places text at from to count below few cut is low high reads rest =
+    let n = length columns in
+    let first : drop at (take n places) ≡ to ∷ drop (at + 1) (take n places) =
+    drop-cons (take n places) at 0 (omega (arith, length-take-le n places few)) ∙ ap (λ (x : ℕ). x ∷ drop (suc at) (take n places)) (get_or-take n places at 0 below ∙ sym is)
+    ∙ ap (λ (k : ℕ). to ∷ drop k (take n places)) (sym (add-one at)) in
+    let piece : take (to - from) (drop from (take count text)) ≡ take (to - from) (drop from text) =
+    ap (λ (k : ℕ). take (to - from) (drop from (take k text))) (omega (arith, low, high)) ∙ ap (take (to - from)) (drop-take from (count - from) text)
+    ∙ take-take (to - from) (count - from) (drop from text) (omega (arith, low, high)) in
+    subst (λ (cs : List Column). AreRead marks (map field_of cs) (cut_before (drop at (take n places)) from (take count text))) (sym cut)
+    (subst (λ (ps : List ℕ). AreRead marks (map field_of (column ∷ drop (at + 1) columns)) (cut_before ps from (take count text))) (sym first)
+    (subst (λ (r : List ℕ). IsSome (cell_read marks column.kind r)) (sym piece) reads, rest))
