@@ -1,6 +1,6 @@
 -- A line whose cells are seen to be well spelled is a row.
 use Rattle.std.proofs.Common.{◌≡◌, ◌≢◌, ℕ, zero, suc, ◌+◌, ◌-◌, ◌<◌, ◌≤◌, Bool, true, false, cond, eqb, List, [], ◌∷◌, ◌++◌, Option, None, Some, Result, Ok, Err, length, take, drop, get_or, map, refl, ap, sym, ◌∙◌, subst, arith, length-append, add-one}
-use Rattle.std.specs.Prelude.{IsSome, ◌==◌}
+use Rattle.std.specs.Prelude.{IsSome, IsSomeAnd, ◌==◌, slice_get}
 use Rattle.std.specs.List.{position_or_len, slice_split}
 use Rattle.std.specs.Option.{option_and_then, option_map, is_some}
 use Rattle.std.specs.Str.{bytes_eq}
@@ -29,7 +29,7 @@ use Rattle.plain_cells.proofs.PlaceLemmas.{pieces_stand_between}
 use Rattle.zeek_log.specs.declared.fault.At.{At}
 use Rattle.zeek_log.specs.Heads.{Told}
 use Rattle.zeek_log.specs.Lines.{is_newline, is_too_long, pieces_of}
-use Rattle.zeek_log.specs.Plain.{AreRead, IsPlain, cells_or_none, cut_before, is_of_texts, line_end, row_in, row_under}
+use Rattle.zeek_log.specs.Plain.{AreInOrder, AreRead, IsPlain, cells_or_none, cut_before, is_of_texts, line_end, row_in, row_under, start_of}
 use Rattle.zeek_log.specs.Table.{Gives, Line, Outcome, cells_read, data_line, data_told, line_outcome, row_read, row_told, then_cell}
 
 -- ---- cells of texts read whatever they are
@@ -205,8 +205,9 @@ module _ (told : Told) (heading : Heading) (text places : List ℕ) (count : ℕ
       )
 
   pub plain_is : (0 < line_end places count) × (line_end places count ≤ 1048576) × (line_end places count + 64 ≤ length text) × (get_or text 0 0 ≢ 35)
-      → AreRead told.marks heading.fields (cut_before (take count places) 0 (take (line_end places count) text)) → IsPlain told text places count
-  plain_is row are =
+      → AreRead told.marks heading.fields (cut_before (take count places) 0 (take (line_end places count) text))
+      → AreInOrder 0 (line_end places count) (take count places) → IsPlain told text places count
+  plain_is row are order =
       let is = end_is told.separator text places count cuts in
       let line = take (line_end places count) text in
       let at = plain_at (line_end places count) is row are in
@@ -215,10 +216,24 @@ module _ (told : Told) (heading : Heading) (text places : List ℕ) (count : ℕ
         found = subst (λ (k : ℕ). IsFirstByte (is_byte 10) text (Some k)) (sym is) (end_found told.separator text places count cuts);
         pieces = subst (λ (k : ℕ). pieces_of told.separator (take k text) ≡ cut_before (take count places) 0 (take k text)) (sym is) (pieces_are told.separator text places count cuts);
         row = at.1 ∙ ap Ok cells;
+        order = order;
+        few = cuts.within;
+        columns = subst (λ (h : Option Heading). IsSomeAnd h (λ x. length x.fields ≡ count)) (sym stands) (sym same);
         gives = at.2 ∙ ap (λ (xs : List Cell). Gives told (Line xs)) cells;
       }
 
 -- ---- cell by cell
+
+place_at : (places : List ℕ) (n at to : ℕ) → at < n → n ≤ length places → to ≡ get_or places at 0 → drop at (take n places) ≡ to ∷ drop (at + 1) (take n places)
+place_at places n at to below few is =
+    drop-cons (take n places) at 0 (omega (arith, length-take-le n places few)) ∙ ap (λ (x : ℕ). x ∷ drop (suc at) (take n places)) (get_or-take n places at 0 below ∙ sym is)
+    ∙ ap (λ (k : ℕ). to ∷ drop k (take n places)) (sym (add-one at))
+
+pub in_order : (columns : List Column) (places : List ℕ) (at from to count : ℕ) → at < length columns → length columns ≤ length places
+    → to ≡ get_or places at 0 → from ≤ to → to ≤ count → AreInOrder (to + 1) count (drop (at + 1) (take (length columns) places))
+    → AreInOrder from count (drop at (take (length columns) places))
+in_order columns places at from to count below few is low high rest =
+    subst (λ (ps : List ℕ). AreInOrder from count ps) (sym (place_at places (length columns) at to below few is)) (low, high, rest)
 
 -- one more cell reads
 pub read_on : (marks : Marks) (columns : List Column) (column : Column) (places text : List ℕ) (at from to count : ℕ)
@@ -228,12 +243,62 @@ pub read_on : (marks : Marks) (columns : List Column) (column : Column) (places 
     → AreRead marks (map field_of (drop at columns)) (cut_before (drop at (take (length columns) places)) from (take count text))
 read_on marks columns column places text at from to count below few cut is low high reads rest =
     let n = length columns in
-    let first : drop at (take n places) ≡ to ∷ drop (at + 1) (take n places) =
-    drop-cons (take n places) at 0 (omega (arith, length-take-le n places few)) ∙ ap (λ (x : ℕ). x ∷ drop (suc at) (take n places)) (get_or-take n places at 0 below ∙ sym is)
-    ∙ ap (λ (k : ℕ). to ∷ drop k (take n places)) (sym (add-one at)) in
+    let first = place_at places n at to below few is in
     let piece : take (to - from) (drop from (take count text)) ≡ take (to - from) (drop from text) =
     ap (λ (k : ℕ). take (to - from) (drop from (take k text))) (omega (arith, low, high)) ∙ ap (take (to - from)) (drop-take from (count - from) text)
     ∙ take-take (to - from) (count - from) (drop from text) (omega (arith, low, high)) in
     subst (λ (cs : List Column). AreRead marks (map field_of cs) (cut_before (drop at (take n places)) from (take count text))) (sym cut)
     (subst (λ (ps : List ℕ). AreRead marks (map field_of (column ∷ drop (at + 1) columns)) (cut_before ps from (take count text))) (sym first)
     (subst (λ (r : List ℕ). IsSome (cell_read marks column.kind r)) (sym piece) reads, rest))
+
+-- ---- one cell
+
+-- where the cell of a column begins, the first of them beginning so far in
+abbrev pub first_or : ℕ → List ℕ → ℕ → ℕ
+first_or from places zero = from
+first_or from places (suc column) = get_or places column 0 + 1
+
+pub order_at : (places : List ℕ) (from count column : ℕ) → AreInOrder from count places → column < length places
+    → (first_or from places column ≤ get_or places column 0) × (get_or places column 0 ≤ count)
+order_at [] from count column order below = absurd (omega arith)
+order_at (to ∷ more) from count zero order below = (order.0, order.1)
+order_at (to ∷ more) from count (suc zero) order below = order_at more (to + 1) count zero order.2 (omega arith)
+order_at (to ∷ more) from count (suc (suc column)) order below = order_at more (to + 1) count (suc column) order.2 (omega arith)
+
+pub piece_at : (places : List ℕ) (from : ℕ) (text : List ℕ) (column : ℕ) → column < length places
+    → slice_get (cut_before places from text) column ≡ Some (take (get_or places column 0 - first_or from places column) (drop (first_or from places column) text))
+piece_at [] from text column below = absurd (omega arith)
+piece_at (to ∷ more) from text zero below = refl
+piece_at (to ∷ more) from text (suc zero) below = piece_at more (to + 1) text zero (omega arith)
+piece_at (to ∷ more) from text (suc (suc column)) below = piece_at more (to + 1) text (suc column) (omega arith)
+
+pub first_is : (places : List ℕ) (column : ℕ) → first_or 0 places column ≡ start_of places column
+first_is places zero = refl
+first_is places (suc column) = refl
+
+record Then (first : Option Cell) (rest : Result (List Cell) At) (cells : List Cell) : Type 0 where
+  first_cell : Cell
+  more : List Cell
+  is : first ≡ Some first_cell
+  are : rest ≡ Ok more
+  both : cells ≡ first_cell ∷ more
+
+then_parts : (n : ℕ) (first : Option Cell) (rest : Result (List Cell) At) (cells : List Cell) → then_cell n first rest ≡ Ok cells → Then first rest cells
+then_parts n None rest cells read = cc
+then_parts n (Some x) (Err at) cells read = cc
+then_parts n (Some x) (Ok xs) cells read = record { first_cell = x; more = xs; is = refl; are = refl; both = cc }
+
+-- the cell of a column is what its raw text reads as
+pub cell_is : (marks : Marks) (n : ℕ) (fields : List Field) (raws : List (List ℕ)) (cells : List Cell) (column : ℕ) (field : Field) (raw : List ℕ)
+    → cells_read marks n fields raws ≡ Ok cells → slice_get fields column ≡ Some field → slice_get raws column ≡ Some raw
+    → cell_read marks field.kind raw ≡ slice_get cells column
+cell_is marks n [] raws cells column field raw read at_field at_raw = cc
+cell_is marks n (f ∷ fs) [] cells column field raw read at_field at_raw = cc
+cell_is marks n (f ∷ fs) (r ∷ rs) cells zero field raw read at_field at_raw =
+    let parts = then_parts n (cell_read marks f.kind r) (cells_read marks (n + 1) fs rs) cells read in
+    let same_field : f ≡ field = cc in
+    let same_raw : r ≡ raw = cc in
+    ap (λ (x : Field). cell_read marks x.kind raw) (sym same_field) ∙ ap (cell_read marks f.kind) (sym same_raw) ∙ parts.is ∙ ap (λ (xs : List Cell). slice_get xs 0) (sym parts.both)
+cell_is marks n (f ∷ fs) (r ∷ rs) cells (suc column) field raw read at_field at_raw =
+    let parts = then_parts n (cell_read marks f.kind r) (cells_read marks (n + 1) fs rs) cells read in
+    cell_is marks (n + 1) fs rs parts.more column field raw parts.are at_field at_raw ∙ ap (λ (xs : List Cell). slice_get xs (suc column)) (sym parts.both)

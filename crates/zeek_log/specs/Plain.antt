@@ -1,5 +1,5 @@
 -- Lines that are seen to be rows before any of their cells is read.
-use Rattle.std.specs.Prelude.{◌≡◌, ℕ, ◌+◌, ◌-◌, Bool, List, [], ◌∷◌, Option, None, Some, Result, Ok, Err, IsSome, take, drop, get_or}
+use Rattle.std.specs.Prelude.{◌≡◌, ℕ, zero, suc, ◌+◌, ◌-◌, ◌≤◌, Bool, List, [], ◌∷◌, Option, None, Some, Result, Ok, Err, IsSome, IsSomeAnd, length, take, drop, get_or}
 use Rattle.memchr.specs.Find.{IsFirstByte, is_byte}
 use Rattle.vast_value.specs.declared.cell.Cell.{Cell}
 use Rattle.vast_value.specs.declared.kind.Kind.{Kind}
@@ -34,6 +34,16 @@ abbrev pub cut_before : List ℕ → ℕ → List ℕ → List (List ℕ)
 cut_before [] from text = []
 cut_before (to ∷ more) from text = take (to - from) (drop from text) ∷ cut_before more (to + 1) text
 
+-- places that follow one another, from so much on and up to so much
+abbrev pub AreInOrder : ℕ → ℕ → List ℕ → Type 0
+AreInOrder from count [] = Unit {0}
+AreInOrder from count (to ∷ more) = (from ≤ to) × (to ≤ count) × AreInOrder (to + 1) count more
+
+-- where the cell of a column begins
+abbrev pub start_of : List ℕ → ℕ → ℕ
+start_of places zero = 0
+start_of places (suc column) = get_or places column 0 + 1
+
 -- each raw text reads as a cell of its field's kind
 abbrev pub AreRead : Marks → List Field → List (List ℕ) → Type 0
 AreRead marks [] raws = Unit {0}
@@ -46,6 +56,9 @@ pub record IsPlain (told : Told) (text places : List ℕ) (count : ℕ) : Type 0
   pub found : IsFirstByte (is_byte 10) text (Some (line_end places count))
   pub pieces : pieces_of told.separator (take (line_end places count) text) ≡ cut_before (take count places) 0 (take (line_end places count) text)
   pub row : row_in told (take (line_end places count) text) ≡ Ok (cells_or_none (row_in told (take (line_end places count) text)))
+  pub order : AreInOrder 0 (line_end places count) (take count places)
+  pub few : count ≤ length places
+  pub columns : IsSomeAnd told.heading (λ heading. length heading.fields ≡ count)
   pub gives : line_outcome told (take (line_end places count) text) ≡ Gives told (Line (cells_or_none (row_in told (take (line_end places count) text))))
 
 -- cells of the kind are texts or containers of texts

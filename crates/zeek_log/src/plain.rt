@@ -5,7 +5,7 @@ ghost use Rattle.vast_value.specs.Headings.{field_of};
 ghost use Rattle.value_text.specs.Reading.{cell_read, is_text};
 ghost use Rattle.vast_value.specs.declared.kind.Kind.{Kind};
 ghost use Rattle.zeek_log.specs.Answers.{told_of};
-ghost use Rattle.zeek_log.specs.Plain.{AreRead, IsPlain, cut_before, is_of_texts};
+ghost use Rattle.zeek_log.specs.Plain.{AreInOrder, AreRead, IsPlain, cut_before, is_of_texts};
 
 use crate::known::Known;
 use crate::line::MOST_LINE;
@@ -59,7 +59,8 @@ fn may_be_row(held: &[u8], end: usize) -> bool
 fn are_plain(marks: &Marks, columns: &[Column], text: &[u8], count: usize, places: &[u32]) -> bool
     requires places { length columns.now ≤ length places.now }
     requires spare { count + 64 ≤ length text.now }
-    ensures { IsTrue result → AreRead marks.now (map field_of columns.now) (cut_before (take (length columns.now) places.now) 0 (take count text.now)) }
+    ensures read { IsTrue result → AreRead marks.now (map field_of columns.now) (cut_before (take (length columns.now) places.now) 0 (take count text.now)) }
+    ensures order { IsTrue result → AreInOrder 0 count (take (length columns.now) places.now) }
 {
     let mut from = 0;
     for (at, column) in columns.iter().enumerate() {

@@ -1,7 +1,7 @@
 use Rattle.std.proofs.Common.{ℕ, List, get_or, take, ◌-◌, refl, subst, arith, IsSome}
 use Rattle.value_text.specs.Reading.{cell_read}
 use Rattle.zeek_log.proofs.PieceLemmas.{item_left}
-use Rattle.zeek_log.proofs.PlainLemmas.{read_on}
+use Rattle.zeek_log.proofs.PlainLemmas.{in_order, read_on}
 use Rattle.zeek_log.proofs.plain.are_plain.Goals as goal
 
 pub loop-at-preserved : goal.loop-at-preserved
@@ -16,6 +16,9 @@ loop-at-preserved c =
     let column = c.index-columns-at.result in
     record {
       within = omega (arith, c.if-to-count.false);
+      order = λ rest.
+          c.loop-at.invariant.order
+          (in_order columns places at from to c.args.count c.loop-at-test.true c.requires.places refl c.if-to-from.false c.if-to-count.false rest);
       read = λ rest.
           c.loop-at.invariant.read
           (read_on marks columns column places text at from to c.args.count c.loop-at-test.true c.requires.places
