@@ -80,11 +80,7 @@ fn resolve_test(alloc: Global, test: &Test, layout: &Layout) -> Result<ResolvedT
 }
 
 /// The test on some columns.
-fn on_columns(
-    alloc: Global,
-    test: &Test,
-    columns: Items<usize>,
-) -> Result<ResolvedTest, AllocError>
+fn on_columns(alloc: Global, test: &Test, columns: Items<usize>) -> Result<ResolvedTest, AllocError>
     ensures { IfOk result (λ resolved. resolved ≡ ResolvedTest.Columns columns test.now.rel test.now.literal) }
 {
     let literal = test.literal.duplicate(alloc)?;
