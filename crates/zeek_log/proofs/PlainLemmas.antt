@@ -235,6 +235,12 @@ pub in_order : (columns : List Column) (places : List ℕ) (at from to count : �
 in_order columns places at from to count below few is low high rest =
     subst (λ (ps : List ℕ). AreInOrder from count ps) (sym (place_at places (length columns) at to below few is)) (low, high, rest)
 
+-- what stands between two places of a line, taken of the text that the line begins
+within_line : (text : List ℕ) (from to count : ℕ) → from ≤ to → to ≤ count → take (to - from) (drop from (take count text)) ≡ take (to - from) (drop from text)
+within_line text from to count low high =
+    ap (λ (k : ℕ). take (to - from) (drop from (take k text))) (omega (arith, low, high)) ∙ ap (take (to - from)) (drop-take from (count - from) text)
+    ∙ take-take (to - from) (count - from) (drop from text) (omega (arith, low, high))
+
 -- one more cell reads
 pub read_on : (marks : Marks) (columns : List Column) (column : Column) (places text : List ℕ) (at from to count : ℕ)
     → at < length columns → length columns ≤ length places → drop at columns ≡ column ∷ drop (at + 1) columns
@@ -244,9 +250,7 @@ pub read_on : (marks : Marks) (columns : List Column) (column : Column) (places 
 read_on marks columns column places text at from to count below few cut is low high reads rest =
     let n = length columns in
     let first = place_at places n at to below few is in
-    let piece : take (to - from) (drop from (take count text)) ≡ take (to - from) (drop from text) =
-    ap (λ (k : ℕ). take (to - from) (drop from (take k text))) (omega (arith, low, high)) ∙ ap (take (to - from)) (drop-take from (count - from) text)
-    ∙ take-take (to - from) (count - from) (drop from text) (omega (arith, low, high)) in
+    let piece = within_line text from to count low high in
     subst (λ (cs : List Column). AreRead marks (map field_of cs) (cut_before (drop at (take n places)) from (take count text))) (sym cut)
     (subst (λ (ps : List ℕ). AreRead marks (map field_of (column ∷ drop (at + 1) columns)) (cut_before ps from (take count text))) (sym first)
     (subst (λ (r : List ℕ). IsSome (cell_read marks column.kind r)) (sym piece) reads, rest))
@@ -302,3 +306,63 @@ cell_is marks n (f ∷ fs) (r ∷ rs) cells zero field raw read at_field at_raw 
 cell_is marks n (f ∷ fs) (r ∷ rs) cells (suc column) field raw read at_field at_raw =
     let parts = then_parts n (cell_read marks f.kind r) (cells_read marks (n + 1) fs rs) cells read in
     cell_is marks (n + 1) fs rs parts.more column field raw parts.are at_field at_raw ∙ ap (λ (xs : List Cell). slice_get xs (suc column)) (sym parts.both)
+
+start_kept : (places : List ℕ) (count column : ℕ) → column < count → first_or 0 (take count places) column ≡ start_of places column
+start_kept places count zero below = refl
+start_kept places count (suc k) below = ap (λ (x : ℕ). x + 1) (get_or-take count places k 0 (omega arith))
+
+module _ (told : Told) (heading : Heading) (text places : List ℕ) (count column : ℕ) (stands : told.heading ≡ Some heading) (plain : IsPlain told text places count)
+    (below : column < count) where
+  abbrev cell_end : ℕ
+  cell_end = get_or places column 0
+
+  abbrev cell_start : ℕ
+  cell_start = start_of places column
+
+  bounds : (cell_start ≤ cell_end) × (cell_end ≤ line_end places count)
+  bounds =
+      let order = order_at (take count places) 0 (line_end places count) column plain.order (omega (arith, length-take-le count places plain.few)) in
+      let last = get_or-take count places column 0 below in
+      let start = start_kept places count column below in
+      (omega (arith, order.0, last, start), omega (arith, order.1, last))
+
+  pub cell_low : cell_start ≤ cell_end
+  cell_low = bounds.0
+
+  pub cell_high : cell_end ≤ length text
+  cell_high = omega (arith, bounds.1, plain.found.0.high)
+
+  pub has_place : column < length places
+  has_place = omega (arith, plain.few)
+
+  columns_are : length heading.fields ≡ count
+  columns_are = subst (λ (h : Option Heading). IsSomeAnd h (λ x. length x.fields ≡ count)) stands plain.columns
+
+  pub has_column : column < length heading.fields
+  has_column = omega (arith, columns_are)
+
+  abbrev line : List ℕ
+  line = take (line_end places count) text
+
+  abbrev pieces : List (List ℕ)
+  pieces = pieces_of told.separator line
+
+  piece : slice_get pieces column ≡ Some (take (cell_end - cell_start) (drop cell_start text))
+  piece =
+      ap (λ (ps : List (List ℕ)). slice_get ps column) plain.pieces
+      ∙ piece_at (take count places) 0 line column (omega (arith, length-take-le count places plain.few))
+      ∙ ap (λ (k : ℕ). Some (take (k - first_or 0 (take count places) column) (drop (first_or 0 (take count places) column) line))) (get_or-take count places column 0 below)
+      ∙ ap (λ (k : ℕ). Some (take (cell_end - k) (drop k line))) (start_kept places count column below)
+      ∙ ap Some (within_line text cell_start cell_end (line_end places count) bounds.0 bounds.1)
+
+  many : length pieces ≡ length heading.fields
+  many =
+      ap length plain.pieces ∙ length-cut_before (take count places) 0 line ∙ length-take-le count places plain.few ∙ sym columns_are
+
+  cells : cells_read told.marks 1 heading.fields pieces ≡ Ok (cells_or_none (row_in told line))
+  cells = sym (same_count told.marks heading.fields pieces many) ∙ ap (λ (h : Option Heading). row_under told h line) (sym stands) ∙ plain.row
+
+  pub cell_reads : (field : Field) → slice_get heading.fields column ≡ Some field
+      → cell_read told.marks field.kind (take (cell_end - cell_start) (drop cell_start text)) ≡ slice_get (cells_or_none (row_in told line)) column
+  cell_reads field is =
+      cell_is told.marks 1 heading.fields pieces (cells_or_none (row_in told line)) column field (take (cell_end - cell_start) (drop cell_start text)) cells is piece

@@ -8,5 +8,6 @@ pub mod Lines
 pub mod Naming
 pub mod Plain
 pub mod Reader
+pub mod Standing
 pub mod Steps
 pub mod Table

@@ -143,3 +143,8 @@ step_at reader moved.Line = Line reader.row
 abbrev pub moved_to : Standing → Result Moved ZeekEnd → Result LogStep ZeekEnd
 moved_to reader (Ok moved) = Ok (step_at reader moved)
 moved_to reader (Err e) = Err e
+
+-- a head is the last one now, and a row has a cell for each column of the last head's layout
+abbrev pub StepHas : Option Heading → Option Heading → LogStep → Type 0
+StepHas before now (Head heading) = now ≡ Some heading
+StepHas before now (Line row) = IsSomeAnd before (λ heading. length heading.fields ≡ length row) × (now ≡ before)

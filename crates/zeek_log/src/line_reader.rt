@@ -1,5 +1,7 @@
 //! The lines of a log.
-ghost use Rattle.std.specs.Prelude.{◌≡◌, ◌<◌, ◌≤◌, ℕ, List, Option, [], true, None, Some, Ok, length, is_some, IfOk, OnOk, MatchOption};
+ghost use Rattle.std.specs.Prelude.{◌≡◌, ◌<◌, ◌≤◌, ℕ, List, Option, [], true, None, Some, Ok, length, slice_get, take, is_some, IfOk, IfSome, OnOk, MatchOption};
+ghost use Rattle.zeek_log.specs.Plain.{line_end};
+ghost use Rattle.zeek_log.specs.Standing.{IsPlainAt, behind_line, line_cells};
 ghost use Rattle.vast_value.specs.Headings.{heading_of};
 ghost use Rattle.memchr.specs.Find.{IsFirstByte, is_byte};
 ghost use Rattle.source_block.specs.Taking.{Stops, Counts};
@@ -14,12 +16,13 @@ use crate::finding::{Found, find_line};
 use crate::known::Known;
 use crate::line::take_line;
 use crate::opening::opened;
+use crate::plain::{plain_cell, plain_line};
 use crate::step::{Step, ZeekEnd};
 use source_block::{Block, Stop, Took};
 use std::alloc::{AllocError, Global};
 use std::marker::Model;
 use vast_io::Source;
-use vast_value::Layout;
+use vast_value::{Cell, Layout};
 
 /// How far a reader is.
 #[derive(Clone, Copy, Debug, PartialEq, Eq)]
@@ -105,6 +108,43 @@ impl LineReader {
             Phase::Ended(_) => None,
             _ => self.known.layout.as_ref(),
         }
+    }
+
+    /// How many cells the line at the front of the bytes held has, where it is seen to be a row in place. The places behind
+    /// its cells are then at the front of `places`. `None` says nothing of the line.
+    pub fn plain_line(&self, places: &mut [u32]) -> Option<usize>
+        ensures { IfSome result (λ count. IsPlainAt self.now.state self.now.held places.new count) }
+    {
+        match self.phase {
+            Phase::Reads => plain_line(&self.known, self.block.as_slice(), places),
+            _ => None,
+        }
+    }
+
+    /// Goes behind the line of so many bytes that is at the front of the bytes held.
+    #[tactic(auto, using(source_block::proofs::BufferLemmas::drop_more))]
+    pub fn pass_line(&mut self, count: usize)
+        requires reads { is_reading self.old.state ≡ true }
+        requires within { count < length self.old.held }
+        ensures { self.new ≡ behind_line self.old count }
+    {
+        self.block.skip(count + 1);
+        self.line += 1;
+    }
+
+    /// The cell of a column of the plain line that is at the front of the bytes held.
+    pub fn plain_cell(
+        &self,
+        alloc: Global,
+        places: &[u32],
+        count: usize,
+        column: usize,
+    ) -> Result<Cell, AllocError>
+        requires plain { IsPlainAt self.now.state self.now.held places.now count }
+        requires within { column < count }
+        ensures { IfOk result (λ cell. Some cell ≡ slice_get (line_cells self.now.state (take (line_end places.now count) self.now.held)) column) }
+    {
+        plain_cell(alloc, &self.known, self.block.as_slice(), places, count, column)
     }
 
     /// Takes lines until one gives a step or nothing more comes.

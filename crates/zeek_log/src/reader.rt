@@ -1,12 +1,13 @@
 //! A reader that stands at a line.
-ghost use Rattle.std.specs.Prelude.{◌≡◌, ◌<◌, ◌≤◌, ◌++◌, ◌∷◌, [], None, Some, is_some, IfOk, OnOk, MatchOption};
+ghost use Rattle.std.specs.Prelude.{◌≡◌, ◌<◌, ◌≤◌, ◌++◌, ◌∷◌, [], None, Some, length, is_some, IfOk, OnOk, MatchOption};
 ghost use Rattle.std.specs.List.{flat_map};
 ghost use Rattle.value_text.specs.Writing.{cell_text};
 ghost use Rattle.vast_value.specs.Headings.{heading_of};
 ghost use Rattle.zeek_log.specs.Finding.{most_kept};
 ghost use Rattle.zeek_log.specs.Going.{lines_left};
 ghost use Rattle.zeek_log.specs.Heads.{opening};
-ghost use Rattle.zeek_log.specs.Reader.{CountsOf, Follows, Reads, StepFits, given, heading_told, moved_to, step_at};
+ghost use Rattle.zeek_log.specs.Reader.{CountsOf, Follows, Reads, StepFits, StepHas, given, heading_told, moved_to, step_at};
+ghost use Rattle.zeek_log.specs.Standing.{StandsWell, standing};
 ghost use Rattle.zeek_log.specs.Steps.{step_of};
 
 use crate::line_reader::LineReader;
@@ -16,6 +17,20 @@ use std::marker::Model;
 use value_text::write_cell;
 use vast_io::Source;
 use vast_value::{Bytes, Cell, Layout, Row, RowView, SeenCell};
+
+/// The most columns of a layout, and so the most places behind the cells of a row.
+const MOST_PLACES: usize = 256;
+
+/// Where a reader stands.
+#[derive(Drop)]
+pub enum Current {
+    /// At no row.
+    Nowhere,
+    /// At a row that was made of its line.
+    Made(Row),
+    /// At the line at the front of the bytes held, which is a row of so many cells. The places behind them are kept.
+    Plain(usize),
+}
 
 /// Reads a log from any source, line by line.
 ///
@@ -27,7 +42,8 @@ use vast_value::{Bytes, Cell, Layout, Row, RowView, SeenCell};
 #[derive(Drop)]
 pub struct ZeekReader {
     lines: LineReader,
-    current: Row,
+    current: Current,
+    places: Vec<u32>,
 }
 
 impl Model for ZeekReader {
@@ -35,7 +51,11 @@ impl Model for ZeekReader {
 
     ghost Value = { Standing };
 
-    ghost view = { λ r. record { at = r.lines; row = r.current } };
+    ghost use Rattle.zeek_log.specs.Standing.{StandsWell, standing};
+
+    ghost view = { λ r. standing r.lines r.current r.places.items };
+
+    ghost invariant = { λ r. StandsWell r.lines r.current r.places.items };
 }
 
 impl ZeekReader {
@@ -44,9 +64,11 @@ impl ZeekReader {
         ensures { IfOk result (λ reader. reader ≡ record { at = record { state = Reads opening 1; held = []; taken = 0; kept = 65536 }; row = [] }) }
     {
         let lines = LineReader::new(alloc)?;
+        let places = vec![in alloc; 0; MOST_PLACES]?;
         Ok(ZeekReader {
             lines,
-            current: Row::new(alloc),
+            current: Current::Nowhere,
+            places,
         })
     }
 
@@ -64,24 +86,29 @@ impl ZeekReader {
         ensures kept { self.new.at.kept ≤ most_kept }
         ensures row { self.new.row ≡ [] }
     {
-        self.current = Row::new(alloc);
+        pass_current(&mut self.lines, &mut self.current, self.places.as_slice());
         self.lines.next(alloc, source)
     }
 
-    /// Goes on to the next step of the log, as [`next`](ZeekReader::next), and stands there.
+    /// Goes on to the next step of the log, as [`next`](ZeekReader::next), and stands there. A row that it stands at has a
+    /// cell for each column of the last layout.
     pub fn advance<S: Source>(&mut self, alloc: Global, source: &mut S) -> Result<Moved, ZeekEnd>
         ensures next { Follows self.old.at.state self.old.at self.new.at (S.left source.old) (S.left source.new) (moved_to self.new result) }
         ensures counts { CountsOf self.old.at.state (moved_to self.new result) (S.faults source.old) (S.faults source.new) }
-        ensures fits { IfOk result (λ moved. StepFits (heading_told self.old.at.state) (heading_told self.new.at.state) (step_at self.new moved)) }
+        ensures has { IfOk result (λ moved. StepHas (heading_told self.old.at.state) (heading_told self.new.at.state) (step_at self.new moved)) }
         ensures tells { is_some (S.left source.new) ≡ is_some (S.left source.old) }
         ensures less { OnOk result (lines_left self.new.at.state < lines_left self.old.at.state) }
         ensures kept { self.new.at.kept ≤ most_kept }
     {
-        self.current = Row::new(alloc);
+        pass_current(&mut self.lines, &mut self.current, self.places.as_slice());
+        if let Some(count) = self.lines.plain_line(self.places.as_mut_slice()) {
+            self.current = Current::Plain(count);
+            return Ok(Moved::Line);
+        }
         match self.lines.next(alloc, source)? {
             Step::Head(_) => Ok(Moved::Head),
             Step::Line(row) => {
-                self.current = row;
+                self.current = Current::Made(row);
                 Ok(Moved::Line)
             }
         }
@@ -94,22 +121,40 @@ impl ZeekReader {
         self.lines.layout()
     }
 
-    /// The row of the line at which the reader stands.
-    pub fn row(&self, alloc: Global) -> Result<Row, AllocError>
-        ensures { IfOk result (λ row. row ≡ self.now.row) }
-    {
-        self.current.duplicate(alloc)
-    }
-
-    /// Puts the cells of the line at which the reader stands behind what `out` holds, each as it is written and behind a tab.
-    pub fn write_row(&self, out: &mut Bytes) -> Result<(), AllocError>
+    /// Puts the cells of the row at which the reader stands behind what `out` holds, each as it is written and behind a tab.
+    pub fn write_row(&self, alloc: Global, out: &mut Bytes) -> Result<(), AllocError>
         ensures { OnOk result (out.new ≡ out.old ++ flat_map (λ x. 9 ∷ cell_text x) self.now.row) }
     {
-        for cell in self.current.as_slice() {
-            write_behind_tab(cell, out)?;
+        for column in 0..self.row_len() {
+            if let Some(cell) = self.cell(alloc, column)? {
+                write_behind_tab(cell.get(), out)?;
+            }
         }
         Ok(())
     }
+
+    /// How many cells the row has.
+    fn row_len(&self) -> usize
+        ensures { result ≡ length self.now.row }
+    {
+        match &self.current {
+            Current::Nowhere => 0,
+            Current::Made(row) => row.as_slice().len(),
+            Current::Plain(count) => *count,
+        }
+    }
+}
+
+/// Goes behind a plain line at which a reader stands.
+fn pass_current(lines: &mut LineReader, current: &mut Current, places: &[u32])
+    requires { StandsWell lines.old current.old places.now }
+    ensures lines { lines.new ≡ (standing lines.old current.old places.now).at }
+    ensures current { current.new ≡ Current.Nowhere }
+{
+    if let Current::Plain(count) = current {
+        lines.pass_line(places[*count - 1] as usize);
+    }
+    *current = Current::Nowhere;
 }
 
 fn write_behind_tab(cell: &Cell, out: &mut Bytes) -> Result<(), AllocError>
@@ -123,6 +168,17 @@ impl RowView for ZeekReader {
     ghost cells = { λ reader. reader.row };
 
     fn cell(&self, alloc: Global, column: usize) -> Result<Option<SeenCell<'_>>, AllocError> {
-        self.current.cell(alloc, column)
+        match &self.current {
+            Current::Nowhere => Ok(None),
+            Current::Made(row) => row.cell(alloc, column),
+            Current::Plain(count) => {
+                if column >= *count {
+                    return Ok(None);
+                }
+                let places = self.places.as_slice();
+                let cell = self.lines.plain_cell(alloc, places, *count, column)?;
+                Ok(Some(SeenCell::Made(cell)))
+            }
+        }
     }
 }
