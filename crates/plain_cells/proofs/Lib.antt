@@ -10,3 +10,4 @@ pub mod PartLemmas
 pub mod PlaceLemmas
 pub mod ReadableLemmas
 pub mod SecondLemmas
+mod Vectors

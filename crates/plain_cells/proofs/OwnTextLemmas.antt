@@ -1,23 +1,20 @@
 -- Texts that are written as they were read.
-use Rattle.std.proofs.Common.{◌≡◌, ℕ, ◌<◌, ◌≤◌, Bool, true, false, not, ◌&&◌, ◌||◌, cond, eqb, List, [], ◌∷◌, Option, None, Some, length, refl, ap, sym, ◌∙◌, subst, arith, inl, inr}
+use Rattle.std.proofs.Common.{◌≡◌, ℕ, ◌<◌, Bool, true, false, not, cond, eqb, List, [], ◌∷◌, Some, length, refl, ap, sym, ◌∙◌, subst, arith}
 use Rattle.std.specs.Prelude.{codes}
-use Rattle.std.proofs.lemmas.Bool.{and_parts, not-true, cond-false, cases_Bool}
+use Rattle.std.proofs.lemmas.Bool.{and_parts, not-true}
 use Rattle.std.proofs.lemmas.Slice.Eq.{bytes_eq-Decides}
-use Rattle.std.specs.List.{list_all, list_any, flat_map}
-use Rattle.std.specs.Option.{option_map}
+use Rattle.std.specs.List.{list_all}
 use Rattle.std.specs.Str.{bytes_eq}
 use Rattle.vast_value.specs.declared.kind.Elem.TheVariants as elem
 use Rattle.vast_value.specs.declared.kind.Kind.TheVariants as kind
 use Rattle.vast_value.specs.declared.value.Value.{Value}
 use Rattle.vast_value.specs.declared.value.Value.TheVariants as value
-use Rattle.vast_value.specs.declared.cell.Cell.{Cell}
 use Rattle.vast_value.specs.declared.cell.Cell.TheVariants as cell
-use Rattle.value_reading.specs.declared.marks.Marks.{Marks}
 use Rattle.value_reading.specs.Escapes.{unescaped}
 use Rattle.value_reading.specs.Reading.{value_read, set_read, cell_read}
 use Rattle.value_reading.proofs.EscapeLemmas.{plain_stays}
 use Rattle.value_writing.specs.declared.place.Place.TheVariants as place
-use Rattle.value_writing.specs.Writing.{AreUsual, is_printable, byte_text, text_text, value_text, is_empty_value, cell_text}
+use Rattle.value_writing.specs.Writing.{is_printable, text_text, value_text, cell_text}
 use Rattle.value_writing.proofs.WritingBare.{bare_text}
 use Rattle.plain_cells.specs.Own.{IsOwnText, stands_bare}
 use Rattle.plain_cells.proofs.OwnLemmas.{own_by}

@@ -1,5 +1,5 @@
 -- What reads as a value reads as a cell.
-use Rattle.std.proofs.Common.{◌≡◌, ℕ, ◌-◌, ◌^◌, Bool, true, false, cond, List, [], ◌∷◌, Option, None, Some, refl, ap, sym, ◌∙◌}
+use Rattle.std.proofs.Common.{◌≡◌, ℕ, ◌-◌, ◌^◌, true, false, cond, List, Option, None, Some, refl, ap, ◌∙◌}
 use Rattle.std.specs.Prelude.{IsSome, ◌==◌}
 use Rattle.std.specs.List.{list_any}
 use Rattle.std.specs.Option.{option_map, is_some}
@@ -7,16 +7,13 @@ use Rattle.std.specs.Str.{bytes_eq}
 use Rattle.vast_value.specs.declared.kind.Elem.{Elem}
 use Rattle.vast_value.specs.declared.kind.Elem.TheVariants as elem
 use Rattle.vast_value.specs.declared.kind.Kind.TheVariants as kind
-use Rattle.vast_value.specs.declared.value.Value.{Value}
 use Rattle.vast_value.specs.declared.value.Value.TheVariants as value
-use Rattle.vast_value.specs.declared.cell.Cell.{Cell}
 use Rattle.vast_value.specs.declared.cell.Cell.TheVariants as cell
 use Rattle.value_reading.specs.declared.marks.Marks.{Marks}
 use Rattle.value_reading.specs.Addresses.{address_of}
-use Rattle.value_reading.specs.Escapes.{unescaped}
 use Rattle.value_reading.specs.Numbers.{number_up_to, int_of, span_of}
 use Rattle.value_reading.specs.Ports.{port_of}
-use Rattle.value_reading.specs.Reading.{bool_of, is_text, value_read, set_read, kind_read, cell_read}
+use Rattle.value_reading.specs.Reading.{bool_of, is_text, value_read, set_read, cell_read}
 use Rattle.value_reading.proofs.EscapeLemmas.{plain_stays}
 use Rattle.plain_cells.specs.Readable.{IsReadable}
 

@@ -1,4 +1,4 @@
-use Rattle.std.proofs.Common.{take, length, arith}
+use Rattle.std.proofs.Common.{take, arith}
 use Rattle.std.proofs.lemmas.Bool.{leb-true}
 use Rattle.plain_cells.proofs.DigitLemmas.{digits_led, digits_none, sixteen_within, int_sixteen}
 use Rattle.plain_cells.proofs.ReadableLemmas.{count_readable, int_readable}
