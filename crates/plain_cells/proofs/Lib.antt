@@ -1,6 +1,7 @@
 pub mod BoolLemmas
 pub mod DigitLemmas
 pub mod FrontLemmas
+pub mod GapLemmas
 pub mod LaneLemmas
 pub mod OctetLemmas
 pub mod OwnAddressLemmas

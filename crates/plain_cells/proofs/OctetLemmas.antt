@@ -48,13 +48,13 @@ octet_number text count long some few all low =
 
 -- Four octets
 
-split_front : (p : ℕ → Bool) (xs : List ℕ) (y : ℕ) (ys : List ℕ) → list_any p xs ≡ false → p y ≡ true → slice_split p (xs ++ y ∷ ys) ≡ xs ∷ slice_split p ys
+pub split_front : (p : ℕ → Bool) (xs : List ℕ) (y : ℕ) (ys : List ℕ) → list_any p xs ≡ false → p y ≡ true → slice_split p (xs ++ y ∷ ys) ≡ xs ∷ slice_split p ys
 split_front p [] y ys none here = rw here refl
 split_front p (x ∷ xs) y ys none here =
     let both = or_parts (p x) (list_any p xs) none in
     rw (both.0, split_front p xs y ys both.1 here) refl
 
-split_whole : (p : ℕ → Bool) (xs : List ℕ) → list_any p xs ≡ false → slice_split p xs ≡ xs ∷ []
+pub split_whole : (p : ℕ → Bool) (xs : List ℕ) → list_any p xs ≡ false → slice_split p xs ≡ xs ∷ []
 split_whole p [] none = refl
 split_whole p (x ∷ xs) none =
     let both = or_parts (p x) (list_any p xs) none in

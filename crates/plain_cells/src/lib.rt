@@ -8,6 +8,7 @@
 mod bools;
 mod digits;
 mod dotted;
+mod groups;
 mod laws;
 mod own;
 mod places;
@@ -17,6 +18,7 @@ mod texts;
 pub use bools::is_plain_bool;
 pub use digits::{is_plain_count, is_plain_port};
 pub use dotted::{is_own_address, is_plain_address};
+pub use groups::is_plain_groups;
 pub use laws::pieces_stand_between;
 pub use own::is_own_number;
 pub use places::{byte_places, line_places};
