@@ -1,12 +1,12 @@
 -- Addresses in groups.
-use Rattle.std.proofs.Common.{◌≡◌, ℕ, zero, suc, ◌+◌, ◌-◌, ◌*◌, ◌/◌, ◌%◌, ◌<◌, ◌≤◌, Bool, true, false, ◌&&◌, ◌||◌, cond, eqb, leb, ltb, List, [], ◌∷◌, ◌++◌, Option, None, Some, length, take, drop, get_or, refl, ap, ap₂, sym, ◌∙◌, subst, arith, inl, inr}
+use Rattle.std.proofs.Common.{◌≡◌, ℕ, suc, ◌+◌, ◌-◌, ◌*◌, ◌/◌, ◌%◌, ◌<◌, ◌≤◌, true, false, ◌&&◌, eqb, leb, ltb, List, [], ◌∷◌, ◌++◌, Option, None, Some, length, take, drop, get_or, refl, ap, ap₂, sym, ◌∙◌, subst, arith}
 use Rattle.std.specs.Prelude.{IsSome}
-use Rattle.std.proofs.lemmas.Bool.{and_parts, and_from, or_from, or_parts, ltb-true, leb-true, lt-ltb, le-leb, ne_eqb, eq-eqb, cases_Bool}
+use Rattle.std.proofs.lemmas.Bool.{and_parts, and_from, or_from, or_parts, ltb-true, leb-true, lt-ltb, le-leb, ne_eqb, eq-eqb}
 use Rattle.std.proofs.lemmas.List.{append-nil, append_assoc, length-append, length-take-le, length-drop, drop-drop}
 use Rattle.std.proofs.lemmas.List.Folds.{list_all-append, list_any-append}
 use Rattle.std.specs.List.{list_all, list_any, prefix_len, slice_split}
 use Rattle.std.specs.Option.{option_map, option_and_then, option_or, is_some}
-use Rattle.value_reading.specs.Addresses.{is_colon, is_hexadecimal, digit_value, hexadecimal_behind, group_of, last_groups, groups_to_end, plain_groups, pieces_of, around_gap, eight_groups, with_gap, gapped, grouped_of, address_of, mapped, dotted_of}
+use Rattle.value_reading.specs.Addresses.{is_colon, is_hexadecimal, digit_value, hexadecimal_behind, group_of, groups_to_end, plain_groups, pieces_of, around_gap, eight_groups, with_gap, gapped, grouped_of, address_of, mapped, dotted_of}
 use Rattle.plain_cells.specs.Groups.{is_group, with_colons, colon_behind, AreGroups, AreBegun}
 use Rattle.plain_cells.proofs.LaneLemmas.{all_before}
 use Rattle.plain_cells.proofs.PartLemmas.{take-add}

@@ -15,6 +15,9 @@ const LANES: usize = 16;
 // The groups of an address.
 const GROUPS: usize = 8;
 
+// The most digits of a group.
+const MOST_DIGITS: usize = 4;
+
 // Which of the first 16 bytes are no hexadecimal digits, the bit of the first being the lowest.
 #[inline(always)]
 fn other_marks(text: &[u8]) -> u64
@@ -52,7 +55,7 @@ fn group_end(text: &[u8], at: usize) -> Option<usize>
     }
     let (_, rest) = text.split_at(at);
     let count = leading_hexadecimal(rest);
-    if count == 0 || count > 4 {
+    if count == 0 || count > MOST_DIGITS {
         return None;
     }
     Some(at + count)
