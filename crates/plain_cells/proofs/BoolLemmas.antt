@@ -1,7 +1,6 @@
 -- `T` and `F`.
-use Rattle.std.proofs.Common.{◌≡◌, ◌⊎◌, ℕ, ◌≤◌, Bool, true, false, ◌||◌, eqb, List, [], ◌∷◌, length, take, get_or, refl, subst, sym, ap, ◌∙◌, arith, inl, inr}
+use Rattle.std.proofs.Common.{◌≡◌, ◌⊎◌, ℕ, ◌≤◌, List, [], ◌∷◌, length, take, get_or, refl, subst, sym, arith, inl, inr}
 use Rattle.std.specs.Prelude.{IsSome}
-use Rattle.std.proofs.lemmas.Bool.{or_cases, eqb-true}
 use Rattle.value_reading.specs.Reading.{bool_of}
 use Rattle.plain_cells.proofs.ReadableLemmas.{has_none}
 

@@ -1,6 +1,6 @@
 -- Digits and the numbers that they give.
-use Rattle.std.proofs.Common.{◌≡◌, ℕ, zero, suc, ◌+◌, ◌-◌, ◌*◌, ◌^◌, ◌<◌, ◌≤◌, Bool, true, false, not, ◌&&◌, ◌||◌, cond, eqb, leb, List, [], ◌∷◌, ◌++◌, Option, None, Some, length, take, drop, get_or, refl, ap, ap₂, sym, ◌∙◌, subst, arith}
-use Rattle.std.specs.Prelude.{IsSome, pos}
+use Rattle.std.proofs.Common.{◌≡◌, ℕ, suc, ◌+◌, ◌-◌, ◌*◌, ◌^◌, ◌<◌, ◌≤◌, true, false, eqb, leb, List, [], ◌∷◌, ◌++◌, Option, None, Some, length, take, drop, get_or, refl, ap, ap₂, sym, ◌∙◌, arith}
+use Rattle.std.specs.Prelude.{IsSome}
 use Rattle.std.proofs.Math.Nat.{pow-succ', pow-le-pow_right, mul-le-mul_right, mul_assoc}
 use Rattle.std.proofs.lemmas.Bool.{and_parts, leb-true, le-leb, ne_eqb, cond-true}
 use Rattle.std.proofs.lemmas.List.{take_all, drop_all, length-take-le}
@@ -9,10 +9,9 @@ use Rattle.std.specs.Option.{option_and_then, is_some}
 use Rattle.vast_value.specs.declared.transport.Transport.{Transport}
 use Rattle.vast_value.specs.declared.transport.Transport.TheVariants.{Unknown}
 use Rattle.value_reading.specs.Addresses.{is_slash}
-use Rattle.value_reading.specs.Numbers.{is_digit, number_behind, number_of, if_at_most, number_up_to, begins_with, is_negative, without_sign, if_i64, int_of}
+use Rattle.value_reading.specs.Numbers.{is_digit, number_behind, if_at_most, number_up_to, is_negative, without_sign, int_of}
 use Rattle.value_reading.specs.Ports.{port_of, port_by, transport_behind, from_slash}
 use Rattle.plain_cells.proofs.LaneLemmas.{all_before}
-use Rattle.plain_cells.proofs.ReadableLemmas.{has_none}
 
 pub digit_bounds : (d : ℕ) → is_digit d ≡ true → (48 ≤ d) × (d ≤ 57)
 digit_bounds d digit =

@@ -1,8 +1,8 @@
 -- From the lanes of one load to its bytes.
-use Rattle.std.proofs.Common.{◌≡◌, ℕ, zero, suc, ◌+◌, ◌-◌, ◌%◌, ◌^◌, ◌<◌, ◌≤◌, eqb, Bool, true, false, not, cond, List, [], ◌∷◌, map, length, get_or, take, drop, replicate, Fits, w8, refl, sym, ap, ap₂, ◌∙◌, subst, arith, inl, inr}
+use Rattle.std.proofs.Common.{◌≡◌, ℕ, zero, suc, ◌+◌, ◌%◌, ◌^◌, ◌≤◌, eqb, Bool, true, false, not, cond, List, [], ◌∷◌, map, length, take, drop, replicate, Fits, w8, refl, sym, ap, ap₂, ◌∙◌, arith, inl, inr}
 use Rattle.std.proofs.lemmas.Bool.{agree_below, agree_below_at, cases_Bool, and_parts, and_from}
 use Rattle.std.proofs.lemmas.List.Folds.{list_all-append}
-use Rattle.std.proofs.lemmas.Simd.{map-map, mask_l-mod, length-chunk, first_set_mask_l}
+use Rattle.std.proofs.lemmas.Simd.{map-map, mask_l-mod, first_set_mask_l}
 use Rattle.std.proofs.lemmas.List.{length-map}
 use Rattle.std.specs.List.{prefix_len, list_all}
 use lib.Count.{count_trailing_zeros}
@@ -69,3 +69,13 @@ pub all_more : (p : ℕ → Bool) (at k : ℕ) (text rest : List ℕ) → rest �
 all_more p at k text rest back before low =
     ap (list_all p) (take-add at k text) ∙ list_all-append p (take at text) (take k (drop at text))
     ∙ and_from (list_all p (take at text)) (list_all p (take k (drop at text))) before (ap (λ (l : List ℕ). list_all p (take k l)) (sym back) ∙ all_before p 16 k rest low)
+
+-- Bytes that pass stand before the first that fails.
+pub reached : (p : ℕ → Bool) (n k : ℕ) (xs : List ℕ) → k ≤ n → k ≤ length xs → list_all p (take k xs) ≡ true → k ≤ prefix_len p (take n xs)
+reached p n zero xs low within all = omega arith
+reached p zero (suc k) xs low within all = absurd (omega arith)
+reached p (suc n) (suc k) [] low within all = absurd (omega arith)
+reached p (suc n) (suc k) (x ∷ xs) low within all =
+    let both = and_parts (p x) (list_all p (take k xs)) all in
+    let more : k ≤ prefix_len p (take n xs) = reached p n k xs (omega arith) (omega arith) both.1 in
+    rw both.0 (omega arith)

@@ -1,6 +1,7 @@
 pub mod BoolLemmas
 pub mod DigitLemmas
 pub mod FrontLemmas
+pub mod GapLemmas
 pub mod LaneLemmas
 pub mod OctetLemmas
 pub mod OwnAddressLemmas
@@ -10,3 +11,4 @@ pub mod PartLemmas
 pub mod PlaceLemmas
 pub mod ReadableLemmas
 pub mod SecondLemmas
+mod Vectors

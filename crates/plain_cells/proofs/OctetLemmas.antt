@@ -1,15 +1,15 @@
 -- Four octets with points between them.
-use Rattle.std.proofs.Common.{◌≡◌, ℕ, zero, suc, ◌+◌, ◌-◌, ◌*◌, ◌^◌, ◌<◌, ◌≤◌, Bool, true, false, ◌||◌, cond, eqb, leb, List, [], ◌∷◌, ◌++◌, Option, None, Some, length, take, drop, get_or, refl, ap, ap₂, sym, ◌∙◌, subst, arith, inl, inr}
+use Rattle.std.proofs.Common.{◌≡◌, ℕ, ◌+◌, ◌-◌, ◌*◌, ◌^◌, ◌<◌, ◌≤◌, Bool, true, false, eqb, List, [], ◌∷◌, ◌++◌, Option, None, Some, length, take, drop, get_or, refl, ap, ap₂, sym, ◌∙◌, subst, arith, inl, inr}
 use Rattle.std.specs.Prelude.{IsSome}
 use Rattle.std.proofs.lemmas.Bool.{and_parts, le-leb, cases_eq, or_from, or_parts}
-use Rattle.std.proofs.lemmas.List.{length-take-le, length-drop, get_or-drop}
+use Rattle.std.proofs.lemmas.List.{length-take-le, length-drop}
 use Rattle.std.proofs.lemmas.List.Folds.{list_any-append}
-use Rattle.std.specs.List.{list_all, list_any, slice_split, onto_first}
+use Rattle.std.specs.List.{list_all, list_any, slice_split}
 use Rattle.std.specs.Option.{option_map, option_and_then, option_or, is_some}
 use Rattle.value_reading.specs.Addresses.{short_number, octets, dotted_of, address_of, mapped, grouped_of}
-use Rattle.value_reading.specs.Numbers.{is_digit, number_behind, number_up_to, is_point}
+use Rattle.value_reading.specs.Numbers.{is_digit, is_point}
 use Rattle.plain_cells.specs.Octets.{IsOctet, AreOctets}
-use Rattle.plain_cells.proofs.DigitLemmas.{digit_bounds, digits_none, digits_read, ten_pow, few_within, number_within, AreDigits}
+use Rattle.plain_cells.proofs.DigitLemmas.{digit_bounds, digits_none, ten_pow, few_within, number_within, AreDigits}
 use Rattle.plain_cells.proofs.ReadableLemmas.{has_none}
 use Rattle.plain_cells.proofs.SecondLemmas.{parted, no_point}
 
@@ -48,13 +48,13 @@ octet_number text count long some few all low =
 
 -- Four octets
 
-split_front : (p : ℕ → Bool) (xs : List ℕ) (y : ℕ) (ys : List ℕ) → list_any p xs ≡ false → p y ≡ true → slice_split p (xs ++ y ∷ ys) ≡ xs ∷ slice_split p ys
+pub split_front : (p : ℕ → Bool) (xs : List ℕ) (y : ℕ) (ys : List ℕ) → list_any p xs ≡ false → p y ≡ true → slice_split p (xs ++ y ∷ ys) ≡ xs ∷ slice_split p ys
 split_front p [] y ys none here = rw here refl
 split_front p (x ∷ xs) y ys none here =
     let both = or_parts (p x) (list_any p xs) none in
     rw (both.0, split_front p xs y ys both.1 here) refl
 
-split_whole : (p : ℕ → Bool) (xs : List ℕ) → list_any p xs ≡ false → slice_split p xs ≡ xs ∷ []
+pub split_whole : (p : ℕ → Bool) (xs : List ℕ) → list_any p xs ≡ false → slice_split p xs ≡ xs ∷ []
 split_whole p [] none = refl
 split_whole p (x ∷ xs) none =
     let both = or_parts (p x) (list_any p xs) none in

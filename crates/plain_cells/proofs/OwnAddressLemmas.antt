@@ -1,19 +1,19 @@
 -- Dotted addresses that are written as they were read.
-use Rattle.std.proofs.Common.{◌≡◌, ℕ, ◌+◌, ◌-◌, ◌*◌, ◌/◌, ◌%◌, ◌^◌, ◌<◌, ◌≤◌, Bool, true, false, cond, eqb, leb, List, [], ◌∷◌, ◌++◌, Option, None, Some, length, take, drop, refl, ap, ap₂, sym, ◌∙◌, subst, arith, inl, inr}
+use Rattle.std.proofs.Common.{◌≡◌, ℕ, ◌+◌, ◌*◌, ◌/◌, ◌%◌, ◌^◌, ◌≤◌, true, leb, List, [], ◌∷◌, ◌++◌, Option, None, Some, length, take, refl, ap, ap₂, sym, ◌∙◌, arith, inl, inr}
 use Rattle.std.specs.Prelude.{IsSome}
 use Rattle.std.specs.Fmt.{decimal}
 use Rattle.std.proofs.lemmas.Bool.{cases_Bool, cond-true, eq-eqb}
 use Rattle.std.proofs.lemmas.List.{append-nil}
-use Rattle.std.specs.List.{list_all, slice_split, join_by}
-use Rattle.std.specs.Option.{option_map, option_and_then, option_or}
+use Rattle.std.specs.List.{list_all, join_by}
+use Rattle.std.specs.Option.{option_map, option_or}
 use Rattle.vast_value.specs.declared.kind.Elem.TheVariants as elem
 use Rattle.vast_value.specs.declared.kind.Kind.TheVariants as kind
 use Rattle.vast_value.specs.declared.value.Value.TheVariants as value
 use Rattle.value_reading.specs.Addresses.{short_number, octets, dotted_of, address_of, mapped, grouped_of}
-use Rattle.value_reading.specs.Numbers.{is_digit, number_of, number_up_to, is_point}
+use Rattle.value_reading.specs.Numbers.{is_digit, number_of, number_up_to}
 use Rattle.value_reading.specs.Reading.{value_read}
 use Rattle.value_writing.specs.Writing.{octets_of, dotted_text, is_mapped, groups_of, grouped_text, address_text, value_text, cell_text}
-use Rattle.plain_cells.specs.Octets.{IsOctet, AreOctets}
+use Rattle.plain_cells.specs.Octets.{AreOctets}
 use Rattle.plain_cells.specs.Own.{IsOwnText, HasNoLeadingZero}
 use Rattle.plain_cells.proofs.OctetLemmas.{part_of, four, dotted_parts, dotted_split, dotted_read}
 use Rattle.plain_cells.proofs.OwnLemmas.{up_to_number, read_own, own_one, mapped_by}

@@ -8,7 +8,7 @@ use Rattle.std.proofs.lemmas.Nat.{le-div, div_below}
 use Rattle.std.proofs.Math.Nat.{one-le-pow}
 use Rattle.std.proofs.lemmas.List.{append-nil, append_assoc, length-take-le}
 use Rattle.std.proofs.lemmas.Slice.Eq.{bytes_eq-Decides}
-use Rattle.std.specs.List.{list_all, list_any}
+use Rattle.std.specs.List.{list_all}
 use Rattle.std.specs.Option.{option_map, option_and_then}
 use Rattle.std.specs.Str.{bytes_eq}
 use Rattle.vast_value.specs.declared.kind.Elem.{Elem}
@@ -20,15 +20,13 @@ use Rattle.vast_value.specs.declared.value.Value.{Value}
 use Rattle.vast_value.specs.declared.value.Value.TheVariants as value
 use Rattle.vast_value.specs.declared.cell.Cell.{Cell}
 use Rattle.vast_value.specs.declared.cell.Cell.TheVariants as cell
-use Rattle.value_reading.specs.declared.marks.Marks.{Marks}
 use Rattle.value_reading.specs.Numbers.{is_digit, number_behind, number_of, number_up_to, if_at_most, if_i64, int_of, fraction_of, nanoseconds_of, span_of}
 use Rattle.value_reading.specs.Ports.{port_of}
-use Rattle.value_reading.specs.Reading.{is_text, value_read, set_read, kind_read, cell_read}
-use Rattle.value_writing.specs.declared.place.Place.TheVariants as place
-use Rattle.value_writing.specs.Writing.{AreUsual, last_digits, fraction_text, seconds_text, span_text, cell_text, value_text, port_text, is_empty_value}
+use Rattle.value_reading.specs.Reading.{bool_of, is_text, value_read, set_read, cell_read}
+use Rattle.value_writing.specs.Writing.{last_digits, fraction_text, seconds_text, span_text, cell_text, value_text, port_text}
 use Rattle.plain_cells.specs.Seconds.{AreSeconds}
 use Rattle.plain_cells.specs.Own.{IsOwnText, HasNoLeadingZero}
-use Rattle.plain_cells.proofs.DigitLemmas.{digit_bounds, digits_none, Reads, digits_read, ten_pow, no_sign, port_is}
+use Rattle.plain_cells.proofs.DigitLemmas.{digit_bounds, digits_none, digits_read, ten_pow, no_sign, port_is}
 use Rattle.plain_cells.proofs.ReadableLemmas.{has_none, set_plain}
 use Rattle.plain_cells.proofs.SecondLemmas.{number_some, nano_parts, seconds_parts, seconds_read}
 
@@ -232,3 +230,19 @@ seconds_own_read text whole count s lone six =
       own_one elem.Time raw refl read.1 (λ v is. mapped_by value.Time (span_of raw) v raw own is),
       own_one elem.Span raw refl read.1 (λ v is. mapped_by value.Span (span_of raw) v raw own is),
     )
+
+-- Bools
+
+true_own : (v : Value) → option_map value.Bool (bool_of (84 ∷ [])) ≡ Some v → cell_text (cell.One v) ≡ 84 ∷ []
+unfolding value_text cell_text
+true_own v is = mapped_by value.Bool (Some true) v (84 ∷ []) (λ b read. let same : true ≡ b = cc in subst (λ (t : Bool). cell_text (cell.One (value.Bool t)) ≡ 84 ∷ []) same refl) is
+
+false_own : (v : Value) → option_map value.Bool (bool_of (70 ∷ [])) ≡ Some v → cell_text (cell.One v) ≡ 70 ∷ []
+unfolding value_text cell_text
+false_own v is = mapped_by value.Bool (Some false) v (70 ∷ []) (λ b read. let same : false ≡ b = cc in subst (λ (t : Bool). cell_text (cell.One (value.Bool t)) ≡ 70 ∷ []) same refl) is
+
+pub bool_own : (text : List ℕ) → 1 ≤ length text → (get_or text 0 0 ≡ 84) ⊎ (get_or text 0 0 ≡ 70) → IsOwnText (kind.One elem.Bool) (take 1 text)
+unfolding value_read
+bool_own [] some is = absurd (omega arith)
+bool_own (b ∷ bs) some (inl is_t) = subst (λ (x : ℕ). IsOwnText (kind.One elem.Bool) (x ∷ [])) (sym is_t) (own_one elem.Bool (84 ∷ []) refl refl true_own)
+bool_own (b ∷ bs) some (inr is_f) = subst (λ (x : ℕ). IsOwnText (kind.One elem.Bool) (x ∷ [])) (sym is_f) (own_one elem.Bool (70 ∷ []) refl refl false_own)

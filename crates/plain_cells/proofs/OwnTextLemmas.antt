@@ -1,23 +1,24 @@
 -- Texts that are written as they were read.
-use Rattle.std.proofs.Common.{◌≡◌, ℕ, ◌<◌, ◌≤◌, Bool, true, false, not, ◌&&◌, ◌||◌, cond, eqb, List, [], ◌∷◌, Option, None, Some, length, refl, ap, sym, ◌∙◌, subst, arith, inl, inr}
+use Rattle.vast_value.specs.declared.cell.Cell.{Cell}
+use Rattle.value_reading.specs.declared.marks.Marks.{Marks}
+use Rattle.std.proofs.Common.{◌≡◌, ℕ, ◌<◌, Bool, true, false, not, cond, eqb, List, [], ◌∷◌, Some, length, refl, ap, sym, ◌∙◌, subst, arith, Option}
 use Rattle.std.specs.Prelude.{codes}
-use Rattle.std.proofs.lemmas.Bool.{and_parts, not-true, cond-false, cases_Bool}
+use Rattle.std.proofs.lemmas.Bool.{and_parts, not-true, cond-true, cond-false}
 use Rattle.std.proofs.lemmas.Slice.Eq.{bytes_eq-Decides}
-use Rattle.std.specs.List.{list_all, list_any, flat_map}
-use Rattle.std.specs.Option.{option_map}
+use Rattle.std.specs.List.{list_all}
 use Rattle.std.specs.Str.{bytes_eq}
+use Rattle.vast_value.specs.declared.kind.Elem.{Elem}
 use Rattle.vast_value.specs.declared.kind.Elem.TheVariants as elem
+use Rattle.vast_value.specs.declared.kind.Kind.{Kind}
 use Rattle.vast_value.specs.declared.kind.Kind.TheVariants as kind
 use Rattle.vast_value.specs.declared.value.Value.{Value}
 use Rattle.vast_value.specs.declared.value.Value.TheVariants as value
-use Rattle.vast_value.specs.declared.cell.Cell.{Cell}
 use Rattle.vast_value.specs.declared.cell.Cell.TheVariants as cell
-use Rattle.value_reading.specs.declared.marks.Marks.{Marks}
 use Rattle.value_reading.specs.Escapes.{unescaped}
-use Rattle.value_reading.specs.Reading.{value_read, set_read, cell_read}
+use Rattle.value_reading.specs.Reading.{value_read, set_read, kind_read, cell_read}
 use Rattle.value_reading.proofs.EscapeLemmas.{plain_stays}
 use Rattle.value_writing.specs.declared.place.Place.TheVariants as place
-use Rattle.value_writing.specs.Writing.{AreUsual, is_printable, byte_text, text_text, value_text, is_empty_value, cell_text}
+use Rattle.value_writing.specs.Writing.{is_printable, text_text, value_text, cell_text, AreUsual}
 use Rattle.value_writing.proofs.WritingBare.{bare_text}
 use Rattle.plain_cells.specs.Own.{IsOwnText, stands_bare}
 use Rattle.plain_cells.proofs.OwnLemmas.{own_by}
@@ -82,3 +83,34 @@ name_own raw some all marks usual x is =
     (λ empty. empty_name_cell ∙ is_text raw marks.empty (codes "(empty)") usual.empty empty)
     (λ full. ap (λ (l : List ℕ). cell_text (cell.One (value.Name l))) plain ∙ name_cell raw some (text_by raw all (is_other raw marks.unset (codes "-") usual.unset set) (is_other raw marks.empty (codes "(empty)") usual.empty full)))
     read) is
+
+-- What stands for no value
+
+dash_by : (marks : Marks) (k : Kind) (o : Option Cell) (x : Cell) → AreUsual marks → cond (bytes_eq (codes "-") marks.unset) (Some cell.Unset) o ≡ Some x → cell_text x ≡ codes "-"
+unfolding cell_text
+dash_by marks k o x usual is =
+    let unset : bytes_eq (codes "-") marks.unset ≡ true = ap (bytes_eq (codes "-")) usual.unset in
+    let read : Some cell.Unset ≡ Some x = sym (cond-true (bytes_eq (codes "-") marks.unset) (Some cell.Unset) o unset) ∙ is in
+    let same : cell.Unset ≡ x = cc in subst (λ (y : Cell). cell_text y ≡ codes "-") same refl
+
+pub dash_own : (k : Kind) → IsOwnText k (codes "-")
+unfolding cell_read
+dash_own k marks usual x is = dash_by marks k (kind_read marks k (codes "-")) x usual is
+
+empty_by : (marks : Marks) (o : Option Cell) (x : Cell) → AreUsual marks → cond (bytes_eq (codes "(empty)") marks.unset) (Some cell.Unset) (cond (bytes_eq (codes "(empty)") marks.empty) (Some (cell.Many [])) o) ≡ Some x → cell_text x ≡ codes "(empty)"
+unfolding cell_text
+empty_by marks o x usual is =
+    let set : bytes_eq (codes "(empty)") marks.unset ≡ false = ap (bytes_eq (codes "(empty)")) usual.unset in
+    let empty : bytes_eq (codes "(empty)") marks.empty ≡ true = ap (bytes_eq (codes "(empty)")) usual.empty in
+    let inner : Option Cell = cond (bytes_eq (codes "(empty)") marks.empty) (Some (cell.Many [])) o in
+    let read : Some (cell.Many []) ≡ Some x =
+    sym (cond-false (bytes_eq (codes "(empty)") marks.unset) (Some cell.Unset) inner set ∙ cond-true (bytes_eq (codes "(empty)") marks.empty) (Some (cell.Many [])) o empty) ∙ is in
+    let same : cell.Many [] ≡ x = cc in subst (λ (y : Cell). cell_text y ≡ codes "(empty)") same refl
+
+pub empty_set_own : (e : Elem) → IsOwnText (kind.SetOf e) (codes "(empty)")
+unfolding cell_read
+empty_set_own e marks usual x is = empty_by marks _ x usual is
+
+pub empty_list_own : (e : Elem) → IsOwnText (kind.VecOf e) (codes "(empty)")
+unfolding cell_read
+empty_list_own e marks usual x is = empty_by marks _ x usual is

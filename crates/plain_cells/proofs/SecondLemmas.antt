@@ -1,15 +1,15 @@
 -- Seconds: digits, a point and digits.
-use Rattle.std.proofs.Common.{◌≡◌, ℕ, zero, suc, ◌+◌, ◌-◌, ◌*◌, ◌^◌, ◌<◌, ◌≤◌, Bool, true, false, not, ◌||◌, cond, eqb, leb, List, [], ◌∷◌, ◌++◌, None, Some, length, take, drop, get_or, refl, ap, sym, ◌∙◌, subst, arith, inl, inr}
+use Rattle.std.proofs.Common.{◌≡◌, ℕ, zero, suc, ◌+◌, ◌-◌, ◌*◌, ◌^◌, ◌<◌, ◌≤◌, Bool, true, false, eqb, List, [], ◌∷◌, ◌++◌, None, Some, length, take, drop, get_or, refl, ap, sym, ◌∙◌, subst, arith, inl, inr}
 use Rattle.std.specs.Prelude.{IsSome}
-use Rattle.std.proofs.Math.Nat.{pow-suc, pow-le-pow_right, mul-le-mul_right}
+use Rattle.std.proofs.Math.Nat.{mul-le-mul_right}
 use Rattle.std.proofs.lemmas.Bool.{and_parts, le-leb, ne_eqb, cases_eq, cond-true, or_from, or_parts}
 use Rattle.std.proofs.lemmas.List.{take_at, drop_at, drop-drop, drop_more, length-take-le, length-drop}
 use Rattle.std.proofs.lemmas.List.Folds.{list_any-append}
 use Rattle.std.specs.List.{list_all, list_any, position_or_len, before_first, after_first}
-use Rattle.value_reading.specs.Numbers.{is_digit, number_behind, number_of, is_negative, without_sign, if_i64, is_point, fraction_of, nanoseconds_of, span_of}
+use Rattle.value_reading.specs.Numbers.{is_digit, number_behind, number_of, is_point, fraction_of, nanoseconds_of, span_of}
 use Rattle.value_reading.proofs.NumberLemmas.{fraction_fits}
 use Rattle.plain_cells.specs.Seconds.{AreSeconds}
-use Rattle.plain_cells.proofs.DigitLemmas.{digit_bounds, digits_none, Reads, digits_read, ten_pow, no_sign}
+use Rattle.plain_cells.proofs.DigitLemmas.{digit_bounds, digits_none, digits_read, ten_pow, no_sign}
 use Rattle.plain_cells.proofs.PartLemmas.{take-add}
 use Rattle.plain_cells.proofs.ReadableLemmas.{has_none}
 

@@ -1,3 +1,4 @@
+pub mod Groups
 pub mod Octets
 pub mod Own
 pub mod Places

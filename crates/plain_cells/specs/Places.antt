@@ -1,5 +1,5 @@
 -- The places of bytes in a text, and what stands between them.
-use Rattle.std.specs.Prelude.{◌≡◌, ◌<◌, ◌≤◌, ◌++◌, length, ℕ, zero, suc, ◌+◌, ◌-◌, ◌/◌, ◌%◌, ◌==◌, Bool, if◌then◌else◌, List, [], ◌∷◌, take, drop}
+use Rattle.std.specs.Prelude.{◌⊎◌, ◌≡◌, ◌<◌, ◌≤◌, ◌++◌, length, ℕ, zero, suc, ◌+◌, ◌-◌, ◌/◌, ◌%◌, ◌==◌, Bool, if◌then◌else◌, List, [], ◌∷◌, take, drop}
 use Rattle.std.specs.List.{position_or_len}
 
 -- the places of the bytes that pass, the first byte being at so much
@@ -27,3 +27,9 @@ pub record CutsLine (separator : ℕ) (text places : List ℕ) (count : ℕ) : T
   pub within : count ≤ length places
   pub newline : position_or_len is_newline text < length text
   pub are : take count places ≡ places_of (λ b. b == separator) 0 (take (position_or_len is_newline text) text) ++ position_or_len is_newline text ∷ []
+
+-- So many places are too few for the separators before the first newline and for it, or that newline is none or stands
+-- among the last 31 bytes.
+abbrev pub IsShort : ℕ → List ℕ → ℕ → Type 0
+IsShort separator text room =
+    (room < length (places_of (λ b. b == separator) 0 (take (position_or_len is_newline text) text)) + 1) ⊎ (length text < position_or_len is_newline text + 32)

@@ -1,6 +1,6 @@
 //! Digits, and the numbers that they are.
-ghost use Rattle.std.specs.Prelude.{◌≡◌, ◌+◌, ◌*◌, ◌≤◌, not, length, take, map, IsTrue, slice_index};
-ghost use Rattle.std.specs.List.{prefix_len};
+ghost use Rattle.std.specs.Prelude.{◌≡◌, ◌+◌, ◌*◌, ◌<◌, ◌≤◌, true, not, length, take, map, IsTrue, slice_index};
+ghost use Rattle.std.specs.List.{list_all, prefix_len};
 ghost use Rattle.std.specs.Simd.Lanes.{mask_l};
 ghost use Rattle.value_reading.specs.Numbers.{is_digit};
 ghost use Rattle.plain_cells.specs.Readable.{IsReadable};
@@ -40,12 +40,14 @@ pub(crate) fn leading_digits(text: &[u8]) -> usize
     }
 }
 
-/// Whether the first `count` bytes are a number of at most 16 digits, which reads as a count and as an int.
+/// Whether the first `count` bytes are a number of at most 16 digits, which reads as a count and as an int. Each such number
+/// is taken.
 #[inline(always)]
 pub fn is_plain_count(text: &[u8], count: usize) -> bool
     requires { 16 ≤ length text.now }
     ensures count { IsTrue result → IsReadable (Kind.One Elem.Count) (take count text.now) }
     ensures int { IsTrue result → IsReadable (Kind.One Elem.Int) (take count text.now) }
+    ensures taken { 0 < count → count ≤ 16 → list_all is_digit (take count text.now) ≡ true → IsTrue result }
 {
     if count == 0 {
         return false;

@@ -74,7 +74,8 @@ fn points(text: &[u8], count: usize) -> Option<(usize, usize, usize)>
     Some((a, b, c))
 }
 
-/// Whether the first `count` bytes are four numbers of one to three digits, each at most 255, with points between them.
+/// Whether the first `count` bytes are four numbers of one to three digits, each at most 255, with points between them. A
+/// digit behind them is answered by false.
 #[inline(always)]
 pub fn is_plain_address(text: &[u8], count: usize) -> bool
     requires { 32 ≤ length text.now }

@@ -8,6 +8,8 @@
 mod bools;
 mod digits;
 mod dotted;
+mod groups;
+mod laws;
 mod own;
 mod places;
 mod seconds;
@@ -16,7 +18,14 @@ mod texts;
 pub use bools::is_plain_bool;
 pub use digits::{is_plain_count, is_plain_port};
 pub use dotted::{is_own_address, is_plain_address};
+pub use groups::is_plain_groups;
+pub use laws::{
+    marks_are_readable, marks_stand_as_written, pieces_stand_between, texts_are_readable,
+};
 pub use own::is_own_number;
 pub use places::{byte_places, line_places};
 pub use seconds::{is_own_time, is_plain_time};
 pub use texts::is_own_text;
+
+#[cfg(test)]
+mod tests;

@@ -1,7 +1,7 @@
 //! The places of a byte, found 32 bytes at a time.
 ghost use Rattle.std.specs.Prelude.{◌≡◌, ◌+◌, ◌^◌, ◌<◌, ◌≤◌, ◌==◌, ◌++◌, [], ◌∷◌, length, take, map, IfSome, IsNone};
 ghost use Rattle.std.specs.Simd.Lanes.{mask_l};
-ghost use Rattle.plain_cells.specs.Places.{places_of, ones_of, CutsLine};
+ghost use Rattle.plain_cells.specs.Places.{places_of, ones_of, CutsLine, IsShort};
 
 use std::simd::prelude::*;
 
@@ -85,7 +85,8 @@ fn put_place(place: u32, places: &mut [u32], count: usize) -> Option<usize>
 #[inline(never)]
 pub fn line_places(separator: u8, text: &[u8], places: &mut [u32]) -> Option<usize>
     requires { length text.now < 2 ^ 31 }
-    ensures { IfSome result (λ n. CutsLine separator text.now places.new n) }
+    ensures cuts { IfSome result (λ n. CutsLine separator text.now places.new n) }
+    ensures short { IsNone result → IsShort separator text.now (length places.old) }
 {
     let mut n = 0;
     let mut at = 0;

@@ -1,8 +1,7 @@
-use Rattle.std.proofs.Common.{◌≡◌, ◌≤◌, ℕ, not, cond, eqb, take, sym, ap, ◌∙◌, arith}
+use Rattle.std.proofs.Common.{eqb, take, sym, ◌∙◌, arith}
 use Rattle.std.proofs.lemmas.Bool.{eq-eqb, ne_eqb, cond-true, cond-false}
 use Rattle.std.proofs.lemmas.List.Sums.{prefix_len-le-length}
 use Rattle.std.proofs.lemmas.Simd.{length-chunk}
-use Rattle.std.specs.List.{prefix_len}
 use Rattle.value_reading.specs.Numbers.{is_digit}
 use Rattle.plain_cells.proofs.LaneLemmas.{first_other}
 use Rattle.plain_cells.proofs.digits.leading_digits.Goals as goal

@@ -1,5 +1,4 @@
-use Rattle.std.proofs.Common.{◌≡◌, ◌+◌, ◌≤◌, drop, length, refl, arith}
-use Rattle.std.proofs.lemmas.List.{length-drop}
+use Rattle.std.proofs.Common.{◌≤◌, length, refl, arith}
 use Rattle.plain_cells.proofs.DigitLemmas.{digits_led}
 use Rattle.plain_cells.proofs.OctetLemmas.{octet_led}
 use Rattle.plain_cells.proofs.dotted.octet_end.Goals as goal

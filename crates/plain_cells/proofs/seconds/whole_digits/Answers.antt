@@ -1,4 +1,4 @@
-use Rattle.std.proofs.Common.{◌≡◌, ◌+◌, ◌-◌, ◌<◌, ◌≤◌, ℕ, IsTrue, leb, true, List, take, drop, length, refl, subst, arith}
+use Rattle.std.proofs.Common.{◌≡◌, ◌+◌, ◌-◌, ◌≤◌, ℕ, true, List, take, length, refl, subst, arith}
 use Rattle.std.specs.List.{list_all}
 use Rattle.value_reading.specs.Numbers.{is_digit}
 use Rattle.plain_cells.proofs.DigitLemmas.{digits_led}

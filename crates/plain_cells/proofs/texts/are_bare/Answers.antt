@@ -1,4 +1,4 @@
-use Rattle.std.proofs.Common.{◌+◌, take, arith}
+use Rattle.std.proofs.Common.{◌+◌, arith}
 use Rattle.std.proofs.lemmas.Bool.{leb-true}
 use Rattle.plain_cells.specs.Own.{stands_bare}
 use Rattle.plain_cells.proofs.LaneLemmas.{all_fewer, all_more}

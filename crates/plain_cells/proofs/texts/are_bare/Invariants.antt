@@ -1,4 +1,4 @@
-use Rattle.std.proofs.Common.{◌≡◌, ◌-◌, ◌≤◌, ◌+◌, length, take, true}
+use Rattle.std.proofs.Common.{◌≡◌, ◌-◌, ◌≤◌, ◌+◌, take, true}
 use Rattle.std.specs.List.{list_all}
 use Rattle.plain_cells.specs.Own.{stands_bare}
 use Rattle.plain_cells.proofs.texts.are_bare.Given as goal

@@ -1,4 +1,4 @@
-use Rattle.std.proofs.Common.{take, length, arith}
+use Rattle.std.proofs.Common.{take, arith}
 use Rattle.std.proofs.lemmas.List.{length-take-le}
 use Rattle.plain_cells.proofs.OwnTextLemmas.{text_own, name_own}
 use Rattle.plain_cells.proofs.texts.is_own_text.Goals as goal
