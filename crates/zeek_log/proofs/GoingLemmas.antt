@@ -110,7 +110,7 @@ goes_taking phase.Last told n old new a b reads takes = cc
 goes_taking (phase.Ended e) told n old new a b reads takes = cc
 
 -- a line and its newline
-line_steps : (told : Told) (n k : ℕ) (held rest more : List ℕ) (stop : Stop) (o : Outcome) → IsFirstByte (is_byte 10) held (Some k) → rest ≡ drop (k + 1) held → line_outcome told (take k held) ≡ o
+pub line_steps : (told : Told) (n k : ℕ) (held rest more : List ℕ) (stop : Stop) (o : Outcome) → IsFirstByte (is_byte 10) held (Some k) → rest ≡ drop (k + 1) held → line_outcome told (take k held) ≡ o
     → steps_from n (end_of stop) told (lines_of stop (held ++ more)) ≡ follow n o (λ next. steps_from (n + 1) (end_of stop) next (lines_of stop (rest ++ more)))
 line_steps told n k held rest more stop o found cut is =
     ap (steps_from n (end_of stop) told) (line_first held more k stop found)

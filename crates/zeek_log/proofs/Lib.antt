@@ -8,5 +8,6 @@ pub mod NearLemmas
 pub mod PieceLemmas
 pub mod PlainLemmas
 pub mod RowLawLemmas
+pub mod StandingLemmas
 mod Vectors
 pub mod WrittenLemmas

@@ -7,6 +7,7 @@ use Rattle.std.specs.Str.{bytes_eq}
 use Rattle.std.proofs.lemmas.Bool.{eq-eqb, le-ltb, ne_eqb}
 use Rattle.std.proofs.lemmas.List.{drop-take, get_or-take, length-drop, length-take-le, take-take, take_all}
 use Rattle.std.proofs.Math.Seq.{drop-cons, get_or-append_seam}
+use Rattle.std.proofs.lemmas.Option.{slice_get-get_or, slice_get-map}
 use Rattle.std.proofs.lemmas.List.Sums.{fails_before_first, passes_at_first}
 use Rattle.memchr.specs.Find.{IsFirstByte, is_byte}
 use Rattle.vast_value.specs.declared.kind.Elem.{Elem}
@@ -217,6 +218,7 @@ module _ (told : Told) (heading : Heading) (text places : List ℕ) (count : ℕ
         pieces = subst (λ (k : ℕ). pieces_of told.separator (take k text) ≡ cut_before (take count places) 0 (take k text)) (sym is) (pieces_are told.separator text places count cuts);
         row = at.1 ∙ ap Ok cells;
         order = order;
+        some = some_places told.separator text places count cuts;
         few = cuts.within;
         columns = subst (λ (h : Option Heading). IsSomeAnd h (λ x. length x.fields ≡ count)) (sym stands) (sym same);
         gives = at.2 ∙ ap (λ (xs : List Cell). Gives told (Line xs)) cells;
@@ -307,6 +309,20 @@ cell_is marks n (f ∷ fs) (r ∷ rs) cells (suc column) field raw read at_field
     let parts = then_parts n (cell_read marks f.kind r) (cells_read marks (n + 1) fs rs) cells read in
     cell_is marks (n + 1) fs rs parts.more column field raw parts.are at_field at_raw ∙ ap (λ (xs : List Cell). slice_get xs (suc column)) (sym parts.both)
 
+length-cells : (marks : Marks) (n : ℕ) (fields : List Field) (raws : List (List ℕ)) (cells : List Cell) → length raws ≡ length fields
+    → cells_read marks n fields raws ≡ Ok cells → length cells ≡ length fields
+length-cells marks n [] raws cells same read = let none : cells ≡ [] = cc in ap length none
+length-cells marks n (f ∷ fs) [] cells same read = absurd (omega arith)
+length-cells marks n (f ∷ fs) (r ∷ rs) cells same read =
+    let parts = then_parts n (cell_read marks f.kind r) (cells_read marks (n + 1) fs rs) cells read in
+    ap length parts.both ∙ ap suc (length-cells marks (n + 1) fs rs parts.more (omega arith) parts.are)
+
+pub field_at : (columns seen : List Column) (column : ℕ) (d : Column) → seen ≡ columns → column < length columns
+    → slice_get (map field_of columns) column ≡ Some (field_of (get_or seen column d))
+field_at columns seen column d same below =
+    slice_get-map field_of columns column ∙ ap (option_map field_of) (slice_get-get_or columns column d below)
+    ∙ ap (λ (cs : List Column). Some (field_of (get_or cs column d))) (sym same)
+
 start_kept : (places : List ℕ) (count column : ℕ) → column < count → first_or 0 (take count places) column ≡ start_of places column
 start_kept places count zero below = refl
 start_kept places count (suc k) below = ap (λ (x : ℕ). x + 1) (get_or-take count places k 0 (omega arith))
@@ -361,6 +377,14 @@ module _ (told : Told) (heading : Heading) (text places : List ℕ) (count colum
 
   cells : cells_read told.marks 1 heading.fields pieces ≡ Ok (cells_or_none (row_in told line))
   cells = sym (same_count told.marks heading.fields pieces many) ∙ ap (λ (h : Option Heading). row_under told h line) (sym stands) ∙ plain.row
+
+  pub cell_count : length (cells_or_none (row_in told line)) ≡ count
+  cell_count = length-cells told.marks 1 heading.fields pieces (cells_or_none (row_in told line)) many cells ∙ columns_are
+
+  pub cell_there : slice_get (cells_or_none (row_in told line)) column ≡ None → ⊥
+  cell_there none =
+      let found = slice_get-get_or (cells_or_none (row_in told line)) column cell.Unset (omega (arith, cell_count)) in
+      let no = sym none ∙ found in cc
 
   pub cell_reads : (field : Field) → slice_get heading.fields column ≡ Some field
       → cell_read told.marks field.kind (take (cell_end - cell_start) (drop cell_start text)) ≡ slice_get (cells_or_none (row_in told line)) column

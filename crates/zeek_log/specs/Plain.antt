@@ -1,5 +1,5 @@
 -- Lines that are seen to be rows before any of their cells is read.
-use Rattle.std.specs.Prelude.{◌≡◌, ℕ, zero, suc, ◌+◌, ◌-◌, ◌≤◌, Bool, List, [], ◌∷◌, Option, None, Some, Result, Ok, Err, IsSome, IsSomeAnd, length, take, drop, get_or}
+use Rattle.std.specs.Prelude.{◌≡◌, ℕ, zero, suc, ◌+◌, ◌-◌, ◌<◌, ◌≤◌, Bool, List, [], ◌∷◌, Option, None, Some, Result, Ok, Err, IsSome, IsSomeAnd, length, take, drop, get_or}
 use Rattle.memchr.specs.Find.{IsFirstByte, is_byte}
 use Rattle.vast_value.specs.declared.cell.Cell.{Cell}
 use Rattle.vast_value.specs.declared.kind.Kind.{Kind}
@@ -57,6 +57,7 @@ pub record IsPlain (told : Told) (text places : List ℕ) (count : ℕ) : Type 0
   pub pieces : pieces_of told.separator (take (line_end places count) text) ≡ cut_before (take count places) 0 (take (line_end places count) text)
   pub row : row_in told (take (line_end places count) text) ≡ Ok (cells_or_none (row_in told (take (line_end places count) text)))
   pub order : AreInOrder 0 (line_end places count) (take count places)
+  pub some : 0 < count
   pub few : count ≤ length places
   pub columns : IsSomeAnd told.heading (λ heading. length heading.fields ≡ count)
   pub gives : line_outcome told (take (line_end places count) text) ≡ Gives told (Line (cells_or_none (row_in told (take (line_end places count) text))))

@@ -1,7 +1,7 @@
 //! The lines of a log.
 ghost use Rattle.std.specs.Prelude.{◌≡◌, ◌<◌, ◌≤◌, ℕ, List, Option, [], true, None, Some, Ok, length, slice_get, take, is_some, IfOk, IfSome, OnOk, MatchOption};
 ghost use Rattle.zeek_log.specs.Plain.{line_end};
-ghost use Rattle.zeek_log.specs.Standing.{IsPlainAt, behind_line, line_cells};
+ghost use Rattle.zeek_log.specs.Standing.{IsPlainAt, behind_line, line_cells, next_state};
 ghost use Rattle.vast_value.specs.Headings.{heading_of};
 ghost use Rattle.memchr.specs.Find.{IsFirstByte, is_byte};
 ghost use Rattle.source_block.specs.Taking.{Stops, Counts};
@@ -113,7 +113,9 @@ impl LineReader {
     /// How many cells the line at the front of the bytes held has, where it is seen to be a row in place. The places behind
     /// its cells are then at the front of `places`. `None` says nothing of the line.
     pub fn plain_line(&self, places: &mut [u32]) -> Option<usize>
-        ensures { IfSome result (λ count. IsPlainAt self.now.state self.now.held places.new count) }
+        ensures plain { IfSome result (λ count. IsPlainAt self.now.state self.now.held places.new count) }
+        ensures less { IfSome result (λ count. lines_left (next_state self.now.state) < lines_left self.now.state) }
+        ensures kept { self.now.kept ≤ most_kept }
     {
         match self.phase {
             Phase::Reads => plain_line(&self.known, self.block.as_slice(), places),

@@ -1,7 +1,8 @@
 //! A reader that stands at a line.
-ghost use Rattle.std.specs.Prelude.{◌≡◌, ◌<◌, ◌≤◌, ◌++◌, ◌∷◌, [], None, Some, length, is_some, IfOk, OnOk, MatchOption};
+ghost use Rattle.std.specs.Prelude.{◌≡◌, ◌<◌, ◌≤◌, ◌++◌, ◌∷◌, [], None, Some, length, slice_get, is_some, IfOk, OnOk, MatchOption};
 ghost use Rattle.std.specs.List.{flat_map};
 ghost use Rattle.value_text.specs.Writing.{cell_text};
+ghost use Rattle.vast_value.specs.declared.cell.Cell.{Cell};
 ghost use Rattle.vast_value.specs.Headings.{heading_of};
 ghost use Rattle.zeek_log.specs.Finding.{most_kept};
 ghost use Rattle.zeek_log.specs.Going.{lines_left};
@@ -43,7 +44,7 @@ pub enum Current {
 pub struct ZeekReader {
     lines: LineReader,
     current: Current,
-    places: Vec<u32>,
+    places: [u32; MOST_PLACES],
 }
 
 impl Model for ZeekReader {
@@ -53,9 +54,9 @@ impl Model for ZeekReader {
 
     ghost use Rattle.zeek_log.specs.Standing.{StandsWell, standing};
 
-    ghost view = { λ r. standing r.lines r.current r.places.items };
+    ghost view = { λ r. standing r.lines r.current r.places };
 
-    ghost invariant = { λ r. StandsWell r.lines r.current r.places.items };
+    ghost invariant = { λ r. StandsWell r.lines r.current r.places };
 }
 
 impl ZeekReader {
@@ -64,11 +65,10 @@ impl ZeekReader {
         ensures { IfOk result (λ reader. reader ≡ record { at = record { state = Reads opening 1; held = []; taken = 0; kept = 65536 }; row = [] }) }
     {
         let lines = LineReader::new(alloc)?;
-        let places = vec![in alloc; 0; MOST_PLACES]?;
         Ok(ZeekReader {
             lines,
             current: Current::Nowhere,
-            places,
+            places: [0; MOST_PLACES],
         })
     }
 
@@ -86,7 +86,7 @@ impl ZeekReader {
         ensures kept { self.new.at.kept ≤ most_kept }
         ensures row { self.new.row ≡ [] }
     {
-        pass_current(&mut self.lines, &mut self.current, self.places.as_slice());
+        pass_current(&mut self.lines, &mut self.current, &self.places);
         self.lines.next(alloc, source)
     }
 
@@ -100,8 +100,8 @@ impl ZeekReader {
         ensures less { OnOk result (lines_left self.new.at.state < lines_left self.old.at.state) }
         ensures kept { self.new.at.kept ≤ most_kept }
     {
-        pass_current(&mut self.lines, &mut self.current, self.places.as_slice());
-        if let Some(count) = self.lines.plain_line(self.places.as_mut_slice()) {
+        pass_current(&mut self.lines, &mut self.current, &self.places);
+        if let Some(count) = self.lines.plain_line(&mut self.places) {
             self.current = Current::Plain(count);
             return Ok(Moved::Line);
         }
@@ -126,11 +126,19 @@ impl ZeekReader {
         ensures { OnOk result (out.new ≡ out.old ++ flat_map (λ x. 9 ∷ cell_text x) self.now.row) }
     {
         for column in 0..self.row_len() {
-            if let Some(cell) = self.cell(alloc, column)? {
-                write_behind_tab(cell.get(), out)?;
-            }
+            self.write_cell(alloc, column, out)?;
         }
         Ok(())
+    }
+
+    /// Puts the cell of a column, if there is one, behind what `out` holds, as it is written and behind a tab.
+    fn write_cell(&self, alloc: Global, column: usize, out: &mut Bytes) -> Result<(), AllocError>
+        ensures { OnOk result ((x : Cell) → slice_get self.now.row column ≡ Some x → out.new ≡ out.old ++ 9 ∷ cell_text x) }
+    {
+        match self.cell(alloc, column)? {
+            Some(cell) => write_behind_tab(cell.get(), out),
+            None => Ok(()),
+        }
     }
 
     /// How many cells the row has.
@@ -175,8 +183,7 @@ impl RowView for ZeekReader {
                 if column >= *count {
                     return Ok(None);
                 }
-                let places = self.places.as_slice();
-                let cell = self.lines.plain_cell(alloc, places, *count, column)?;
+                let cell = self.lines.plain_cell(alloc, &self.places, *count, column)?;
                 Ok(Some(SeenCell::Made(cell)))
             }
         }

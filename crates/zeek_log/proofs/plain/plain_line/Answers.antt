@@ -22,6 +22,6 @@ returns c =
     let same = c.if-count-columns.false ∙ ap length c.columns-columns.ensures ∙ sym (length-map c.in-Some.layout.columns field_of) in
     let are : AreRead known.marks (map field_of columns) (cut_before (take count places) 0 line) =
     subst (λ (n : ℕ). AreRead known.marks (map field_of columns) (cut_before (take n places) 0 line)) (sym c.if-count-columns.false) (c.if-not-are_plain.ensures.read refl) in
-    plain_is (told_of known) (heading_of c.in-Some.layout) held places count c.in_ok-count.ensures stands path same (c.if-not-may_be_row.ensures refl)
+    plain_is (told_of known) (heading_of c.in-Some.layout) held places count c.in_ok-count.ensures.cuts stands path same (c.if-not-may_be_row.ensures refl)
     (subst (λ (cs : List Column). AreRead known.marks (map field_of cs) (cut_before (take count places) 0 line)) c.columns-columns.ensures are)
     (subst (λ (n : ℕ). AreInOrder 0 (line_end places count) (take n places)) (sym c.if-count-columns.false) (c.if-not-are_plain.ensures.order refl))
