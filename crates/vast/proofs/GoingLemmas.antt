@@ -15,7 +15,7 @@ use Rattle.zeek_log.specs.declared.step.ZeekEnd.TheVariants as end
 use Rattle.zeek_log.specs.Heads.{Told, opening}
 use Rattle.source_block.specs.declared.stop.Stop.{Stop}
 use Rattle.source_block.specs.declared.stop.Stop.TheVariants.{AtEnd, Failed, AtBound}
-use Rattle.zeek_log.specs.Reader.{State, Reads, Last, Ended, Reading, to_come, come_from, IsMet, MayFollow, IsMetAtLast, StepsOn, EndsAnyway, EndsThere, EndsAs, Closes, Follows, CountsBy, CountsOf, heading_told, StepFits}
+use Rattle.zeek_log.specs.Reader.{State, Reads, Last, Ended, Reading, to_come, come_from, IsMet, MayFollow, IsMetAtLast, StepsOn, EndsAnyway, EndsThere, EndsAs, Closes, Follows, CountsBy, CountsOf, heading_told, StepHas}
 use Rattle.zeek_log.specs.Steps.{Steps, ended, first, steps_of, steps_of_source, taken_steps}
 use Rattle.zeek_log.specs.Table.{LogStep, Head, Line}
 use Rattle.source_block.specs.Holding.{most_bytes}
@@ -24,7 +24,7 @@ use Rattle.vast.specs.declared.status.Status.TheVariants as status
 use Rattle.vast.specs.declared.report.WriteEnd.{WriteEnd}
 use Rattle.vast.specs.declared.report.WriteEnd.TheVariants as write
 use Rattle.vast.specs.Causes.{TellsText, Tells, TellsOf, TellsSome, IsFault, ReadsWell, LeavesNothing, SinkStands}
-use Rattle.vast.specs.Reports.{Moves, FitsLast, heading_after, status_of}
+use Rattle.vast.specs.Reports.{Moves, HasCells, heading_after, status_of}
 
 -- ---- the source's bytes
 
@@ -234,6 +234,12 @@ told_cut s whole (Some bytes) None f g before now cut same parts = parts
 told_cut s whole (Some bytes) (Some rest) f g before now cut same parts = λ room.
     subst (λ (b : Bool). Tells s (steps_of_source bytes rest b) whole before now) (sym (not_below f g same))
     (cut_text s (steps_of_source bytes rest false).end (whole (steps_of_source bytes rest false)) before now cut parts)
+
+-- what is told where memory was wanting before a step
+pub nothing_told : (whole : Steps → List ℕ) (left : Option (List ℕ)) (f : ℕ) (before : Option (List ℕ)) → TellsOf status.Memory left left f f whole before before
+nothing_told whole None f before = tt
+nothing_told whole (Some bytes) f before =
+    told_cut status.Memory whole (Some bytes) (Some bytes) f f before before tt refl (part_none before before (whole (steps_of_source bytes bytes false)) refl)
 
 pub cut_status : (w : WriteEnd) → IsCut (status_of w)
 cut_status write.Failed = tt
@@ -612,16 +618,16 @@ cut_leaves _ left cut = absurd cut
 -- ---- what fits
 
 -- a step that fits the reader's heading fits the report's, and the headings go on together
-pub step_fits : (before now : Option Heading) (x : LogStep) → StepFits before now x → FitsLast before x
-step_fits before now (Head next) fits = tt
-step_fits None now (Line row) fits = absurd fits.0
-step_fits (Some heading) now (Line row) fits = fits.0
+pub step_has : (before now : Option Heading) (x : LogStep) → StepHas before now x → HasCells before x
+step_has before now (Head next) fits = tt
+step_has None now (Line row) fits = absurd fits.0
+step_has (Some heading) now (Line row) fits = fits.0
 
-pub heading_goes : (before now : Option Heading) (x : LogStep) → StepFits before now x → heading_after before x ≡ now
+pub heading_goes : (before now : Option Heading) (x : LogStep) → StepHas before now x → heading_after before x ≡ now
 heading_goes before now (Head next) fits = sym fits
 heading_goes before now (Line row) fits = sym fits.1
 
-pub open_by : (st : State) (before : Option Heading) (x : LogStep) → StepFits before (heading_told st) x → is_open st ≡ true
+pub open_by : (st : State) (before : Option Heading) (x : LogStep) → StepHas before (heading_told st) x → is_open st ≡ true
 open_by (Reads told n) before x fits = refl
 open_by (Last told) before x fits = refl
 open_by (Ended e) before (Head next) fits = cc

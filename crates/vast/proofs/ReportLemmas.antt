@@ -1,12 +1,9 @@
 -- How each report goes on by a step.
 use Rattle.std.proofs.Common.{◌≡◌, ℕ, ◌+◌, Bool, true, false, List, [], ◌∷◌, ◌++◌, Option, None, Some, refl, ap, sym, ◌∙◌, append_assoc, cond, length, map, suc, IsTrue, subst, arith}
-use Rattle.std.proofs.lemmas.Bool.{and_parts}
 use Rattle.std.specs.List.{filter, flat_map}
 use Rattle.vast_value.specs.declared.cell.Cell.{Cell}
 use Rattle.vast_value.specs.declared.column.Column.{Column}
-use Rattle.vast_value.specs.Fit.{fits_columns}
-use Rattle.vast_value.specs.Headings.{Field, Heading, field_of, fits_field, fits_fields}
-use Rattle.vast_value.proofs.HeadingLemmas.{fits_fields-map}
+use Rattle.vast_value.specs.Headings.{Heading}
 use Rattle.query_meaning.specs.declared.expr.Expr.{Expr}
 use Rattle.query_meaning.specs.declared.resolved.Resolved.{Resolved}
 use Rattle.query_meaning.specs.Meaning.{holds}
@@ -15,11 +12,8 @@ use Rattle.zeek_log.specs.declared.step.ZeekEnd.{ZeekEnd}
 use Rattle.zeek_log.specs.Reader.{heading_or_none}
 use Rattle.zeek_log.specs.Steps.{Steps, ended, first}
 use Rattle.zeek_log.specs.Table.{Head, Line}
-use Rattle.vast.specs.Reports.{Carries, FitsLast, scan_behind, match_text, check_behind, counted_text}
+use Rattle.vast.specs.Reports.{Carries, HasCells, scan_behind, match_text, check_behind, counted_text}
 use Rattle.vast.specs.Texts.{Event, events_behind, row_text, line, part_text, parts_of, rows_first, check_text, check_end, scan_end}
-
-pub fits_layout : (columns : List Column) (row : List Cell) → IsTrue (fits_fields (map field_of columns) row) → IsTrue (fits_columns columns row)
-fits_layout columns row fits = subst (λ (b : Bool). IsTrue b) (fits_fields-map columns row) fits
 
 -- ---- rows that match
 
@@ -45,20 +39,14 @@ scan_line heading expr cells out now is = λ rest.
     ∙ sym (append_assoc out (match_text heading cells expr) (scan_behind heading expr rest))
     ∙ ap (λ (t : List ℕ). t ++ scan_behind heading expr rest) (sym is)
 
-fits_lengths : (fields : List Field) (cells : List Cell) → fits_fields fields cells ≡ true → length fields ≡ length cells
-fits_lengths [] [] fits = refl
-fits_lengths [] (x ∷ xs) fits = cc
-fits_lengths (f ∷ fs) [] fits = cc
-fits_lengths (f ∷ fs) (x ∷ xs) fits = ap suc (fits_lengths fs xs (and_parts (fits_field f x) (fits_fields fs xs) fits).1)
-
 -- a row of the last layout matches where the query with its columns chosen for it holds
 pub match_is : (last : Option Heading) (cells : List Cell) (expr : Expr) (resolved : Resolved) (b : Bool)
-    → ((heading : Heading) → last ≡ Some heading → IsOf heading expr resolved) → FitsLast last (Line cells) → b ≡ resolved_holds cells resolved
+    → ((heading : Heading) → last ≡ Some heading → IsOf heading expr resolved) → HasCells last (Line cells) → b ≡ resolved_holds cells resolved
     → match_text last cells expr ≡ cond b (line (row_text (record { heading = heading_or_none last; cells = cells }))) []
 match_is None cells expr resolved b chosen fits held = absurd fits
 match_is (Some heading) cells expr resolved b chosen fits held =
     ap (λ (c : Bool). cond c (line (row_text (record { heading = heading; cells = cells }))) [])
-    (sym (held ∙ chosen heading refl cells (fits_lengths heading.fields cells fits)))
+    (sym (held ∙ chosen heading refl cells fits))
 
 -- ---- layouts
 
@@ -86,7 +74,7 @@ check_head heading rows next out now is = λ rest.
     ∙ sym (append_assoc out (counted_text heading rows) (check_behind (Some next) 0 rest))
     ∙ ap (λ (t : List ℕ). t ++ check_behind (Some next) 0 rest) (sym is)
 
-pub check_line : (heading : Option Heading) (rows : ℕ) (cells : List Cell) (out : List ℕ) → FitsLast heading (Line cells)
+pub check_line : (heading : Option Heading) (rows : ℕ) (cells : List Cell) (out : List ℕ) → HasCells heading (Line cells)
     → Carries (check_behind heading rows) (check_behind heading (rows + 1)) (Line cells) out out
 check_line None rows cells out fits = absurd fits
 check_line (Some heading) rows cells out fits = λ rest.

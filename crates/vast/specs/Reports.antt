@@ -1,9 +1,9 @@
 -- What a report of a log has still to write.
-use Rattle.std.specs.Prelude.{◌≡◌, ℕ, ◌+◌, IsTrue, if◌then◌else◌, List, [], ◌++◌, Option, None, Some}
+use Rattle.std.specs.Prelude.{◌≡◌, ℕ, ◌+◌, if◌then◌else◌, List, [], ◌++◌, Option, None, Some, length}
 use Rattle.std.specs.Io.KnownBytes.{append_known}
 use Rattle.vast_value.specs.declared.cell.Cell.{Cell}
 use Rattle.query_meaning.specs.Meaning.{holds}
-use Rattle.vast_value.specs.Headings.{Heading, fits_fields}
+use Rattle.vast_value.specs.Headings.{Heading}
 use Rattle.query_meaning.specs.declared.expr.Expr.{Expr}
 use Rattle.zeek_log.specs.Reader.{heading_or_none}
 use Rattle.zeek_log.specs.Steps.{Steps, first}
@@ -14,11 +14,11 @@ use Rattle.vast.specs.declared.status.Status.{Status}
 use Rattle.vast.specs.declared.status.Status.TheVariants as status
 use Rattle.vast.specs.Texts.{events_behind, row_text, matches_text, scan_end, line, part_text, rows_first, check_text}
 
--- a row fits the last heading
-abbrev pub FitsLast : Option Heading → LogStep → Type 0
-FitsLast heading (Head next) = Unit {0}
-FitsLast None (Line row) = ⊥
-FitsLast (Some heading) (Line row) = IsTrue (fits_fields heading.fields row)
+-- a row has a cell for each column of the last heading
+abbrev pub HasCells : Option Heading → LogStep → Type 0
+HasCells heading (Head next) = Unit {0}
+HasCells None (Line row) = ⊥
+HasCells (Some heading) (Line row) = length heading.fields ≡ length row
 
 abbrev pub heading_after : Option Heading → LogStep → Option Heading
 heading_after heading (Head next) = Some next

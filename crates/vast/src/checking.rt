@@ -4,7 +4,7 @@ ghost use Rattle.std.specs.Option.{option_map};
 ghost use Rattle.vast_value.specs.Headings.{heading_of};
 ghost use Rattle.zeek_log.specs.Reader.{heading_told, step_at};
 ghost use Rattle.zeek_log.specs.Steps.{ended};
-ghost use Rattle.vast.specs.Reports.{Carries, FitsLast, heading_after, check_behind, counted_text};
+ghost use Rattle.vast.specs.Reports.{Carries, HasCells, heading_after, check_behind, counted_text};
 ghost use Rattle.vast.specs.Texts.{check_end};
 
 use crate::report::{Report, last_layout};

@@ -8,7 +8,7 @@ ghost use Rattle.zeek_log.specs.Reader.{heading_told, step_at};
 ghost use Rattle.zeek_log.specs.Steps.{Steps, ended, first};
 ghost use Rattle.vast.specs.declared.report.WriteEnd.TheVariants.{Memory, Failed as SinkFailed};
 ghost use Rattle.vast.specs.Causes.{TellsOf, TellsSome, TellsText, IsOfReport, ReadsWell, LeavesNothing, SinkStands};
-ghost use Rattle.vast.specs.Reports.{Carries, FitsLast, Moves, heading_after, status_of};
+ghost use Rattle.vast.specs.Reports.{Carries, HasCells, Moves, heading_after, status_of};
 
 use crate::buffer::Buffer;
 use crate::status::Status;
@@ -36,7 +36,7 @@ pub trait Report {
         moved: Moved,
         out: &mut Bytes,
     ) -> Result<(), AllocError>
-        requires fits { FitsLast (heading self.old) (step_at reader.now moved) }
+        requires has { HasCells (heading self.old) (step_at reader.now moved) }
         requires told { heading_told reader.now.at.state ≡ heading_after (heading self.old) (step_at reader.now moved) }
         requires few { rows self.old < 2 ^ 40 }
         ensures text { OnOk result (Carries (behind self.old) (behind self.new) (step_at reader.now moved) out.old out.new) }
@@ -144,7 +144,7 @@ fn write_step<W: Report, K: Sink>(
     buffer: &mut Buffer,
     sink: &mut K,
 ) -> Result<(), WriteEnd>
-    requires fits { FitsLast (W.heading report.old) (step_at reader.now moved) }
+    requires has { HasCells (W.heading report.old) (step_at reader.now moved) }
     requires told { heading_told reader.now.at.state ≡ heading_after (W.heading report.old) (step_at reader.now moved) }
     requires few { W.rows report.old < 2 ^ 40 }
     ensures moves { OnOk result (Moves (W.behind report.old) (W.behind report.new) (step_at reader.now moved) buffer.old.text buffer.new.text (K.written sink.old) (K.written sink.new)) }

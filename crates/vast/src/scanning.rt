@@ -6,7 +6,7 @@ ghost use Rattle.query_meaning.specs.Resolving.{IsOf};
 ghost use Rattle.zeek_log.specs.Reader.{heading_told, step_at};
 ghost use Rattle.zeek_log.specs.Steps.{ended};
 ghost use Rattle.zeek_log.specs.Table.{Line};
-ghost use Rattle.vast.specs.Reports.{Carries, FitsLast, heading_after, match_text, scan_behind};
+ghost use Rattle.vast.specs.Reports.{Carries, HasCells, heading_after, match_text, scan_behind};
 ghost use Rattle.vast.specs.Texts.{scan_end, line, end_text};
 
 use crate::report::{Report, last_layout};
@@ -81,7 +81,7 @@ fn push_match(
     reader: &ZeekReader,
     out: &mut Bytes,
 ) -> Result<(), AllocError>
-    requires { FitsLast (option_map heading_of report.now.layout) (Line reader.now.row) }
+    requires { HasCells (option_map heading_of report.now.layout) (Line reader.now.row) }
     ensures { OnOk result (out.new ≡ out.old ++ match_text (option_map heading_of report.now.layout) reader.now.row report.now.expr) }
 {
     let Some(layout) = &report.layout else {
@@ -90,7 +90,7 @@ fn push_match(
     if !report.resolved.holds(alloc, reader)? {
         return Ok(());
     }
-    push_row(layout, reader, out)
+    push_row(alloc, layout, reader, out)
 }
 
 fn push_scan_end(end: ZeekEnd, out: &mut Bytes) -> Result<(), AllocError>

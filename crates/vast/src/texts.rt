@@ -14,11 +14,16 @@ use vast_value::{Bytes, Layout};
 use zeek_log::{ZeekEnd, ZeekFault, ZeekReader};
 
 /// Puts the line of the row at which a reader stands behind what `out` holds: its path, and each cell behind a tab.
-pub fn push_row(layout: &Layout, reader: &ZeekReader, out: &mut Bytes) -> Result<(), AllocError>
+pub fn push_row(
+    alloc: Global,
+    layout: &Layout,
+    reader: &ZeekReader,
+    out: &mut Bytes,
+) -> Result<(), AllocError>
     ensures { OnOk result (out.new ≡ out.old ++ line (row_text (record { heading = heading_of layout.now; cells = reader.now.row }))) }
 {
     write_escaped(layout.path(), out)?;
-    reader.write_row(out)?;
+    reader.write_row(alloc, out)?;
     out.push(b'\n')
 }
 

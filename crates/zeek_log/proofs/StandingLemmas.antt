@@ -57,7 +57,7 @@ module _ (places : List ℕ) (count : ℕ) where
 
   steps_on : (s : State) (held : List ℕ) (taken kept : ℕ) (now : Option (List ℕ)) → IsPlainAt s held places count
       → Follows s (record { state = s; held = held; taken = taken; kept = kept }) (behind_line (record { state = s; held = held; taken = taken; kept = kept }) (line_end places count)) now now
-          (Ok (Line (line_cells s (take (line_end places count) held))))
+      (Ok (Line (line_cells s (take (line_end places count) held))))
   steps_on (Reads told n) held taken kept now plain = record {
     took = [];
     left = sym (prepend_nothing now);

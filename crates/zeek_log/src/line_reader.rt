@@ -146,7 +146,14 @@ impl LineReader {
         requires within { column < count }
         ensures { IfOk result (λ cell. Some cell ≡ slice_get (line_cells self.now.state (take (line_end places.now count) self.now.held)) column) }
     {
-        plain_cell(alloc, &self.known, self.block.as_slice(), places, count, column)
+        plain_cell(
+            alloc,
+            &self.known,
+            self.block.as_slice(),
+            places,
+            count,
+            column,
+        )
     }
 
     /// Takes lines until one gives a step or nothing more comes.

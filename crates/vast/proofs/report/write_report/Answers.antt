@@ -7,7 +7,7 @@ use Rattle.zeek_log.specs.declared.step.ZeekEnd.TheVariants.{Done}
 use Rattle.zeek_log.specs.Steps.{ended, first}
 use Rattle.vast.specs.declared.status.Status.TheVariants.{Memory}
 use Rattle.vast.specs.Reports.{heading_after}
-use Rattle.vast.proofs.GoingLemmas.{Parts, going_next, going_moves, going_part, told_cut, cut_status, IsCut, told_at, some_cut, some_at, reads_well, leaves_nothing, sink_on, is_memory, heading_goes, open_by, rose_at, step_kept}
+use Rattle.vast.proofs.GoingLemmas.{Parts, going_next, going_moves, going_part, told_cut, cut_status, IsCut, told_at, some_cut, some_at, reads_well, leaves_nothing, sink_on, is_memory, nothing_told, heading_goes, open_by, rose_at, step_kept}
 use Rattle.vast.proofs.report.write_report.Goals as goal
 
 pub returns-in_default-clause-untold : goal.returns-in_default-clause-untold
@@ -17,6 +17,10 @@ returns-in_default-clause-untold g c =
 pub returns-in_default-new-clause-untold : goal.returns-in_default-new-clause-untold
 returns-in_default-new-clause-untold g c =
     (ended Done, part_none (g.K.Sink.written c.args.sink.now) (g.K.Sink.written c.args.sink.now) (g.W.Report.behind c.args.report.now (ended Done)) refl)
+
+pub returns-in_default-new-clause-told : goal.returns-in_default-new-clause-told
+returns-in_default-new-clause-told g c =
+    nothing_told (g.W.Report.behind c.args.report.now) (g.S.Source.left c.args.source.now) (g.S.Source.faults c.args.source.now) (g.K.Sink.written c.args.sink.now)
 
 pub returns-in-Err-write_step-clause-told : goal.returns-in-Err-write_step-clause-told
 returns-in-Err-write_step-clause-told g c =
@@ -102,16 +106,16 @@ loop-moved-preserved g c =
     let before = g.K.Sink.written c.args.sink.now in
     let mid = g.K.Sink.written c.loop-moved.sink in
     let step = step_at c.advance.new.self c.in-Ok-advance.moved in
-    let fits = c.in-Ok-advance.ensures.fits in
+    let has = c.in-Ok-advance.ensures.has in
     record {
       going = going_moves whole behind (g.W.Report.behind c.write_step.new.report) c.loop-moved.buffer.text c.write_step.new.buffer.text c.advance.new.self.at step left left_now
           before mid (g.K.Sink.written c.write_step.new.sink)
           (going_next whole behind c.loop-moved.buffer.text c.loop-moved.reader.at c.advance.new.self.at left (g.S.Source.left c.loop-moved.source) left_now before mid step c.loop-moved.invariant.going c.in-Ok-advance.ensures.next)
           c.in_default-write_step.ensures.moves;
       heading = c.in_default-write_step.ensures.heading ∙ ap (λ (h : Option Heading). heading_after h step) c.loop-moved.invariant.heading
-          ∙ heading_goes (heading_told c.loop-moved.reader.at.state) (heading_told c.advance.new.self.at.state) step fits;
+          ∙ heading_goes (heading_told c.loop-moved.reader.at.state) (heading_told c.advance.new.self.at.state) step has;
       rows = omega (arith, c.in_default-write_step.ensures.rows, c.in-Ok-advance.ensures.less, c.loop-moved.invariant.rows);
-      reads = open_by c.advance.new.self.at.state (heading_told c.loop-moved.reader.at.state) step fits;
+      reads = open_by c.advance.new.self.at.state (heading_told c.loop-moved.reader.at.state) step has;
       tells = c.advance.ensures.tells ∙ c.loop-moved.invariant.tells;
       source_kept = step_kept c.loop-moved.reader.at.state step (g.S.Source.faults c.loop-moved.source) (g.S.Source.faults c.advance.new.source) c.in-Ok-advance.ensures.counts ∙ c.loop-moved.invariant.source_kept;
       sink_kept = c.in_default-write_step.ensures.kept ∙ c.loop-moved.invariant.sink_kept;
