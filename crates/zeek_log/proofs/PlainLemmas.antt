@@ -1,9 +1,8 @@
 -- A line whose cells are seen to be well spelled is a row.
 use Rattle.std.proofs.Common.{◌≡◌, ◌≢◌, ℕ, zero, suc, ◌+◌, ◌-◌, ◌<◌, ◌≤◌, Bool, true, false, cond, eqb, List, [], ◌∷◌, ◌++◌, Option, None, Some, Result, Ok, Err, length, take, drop, get_or, map, refl, ap, sym, ◌∙◌, subst, arith, length-append, add-one}
-use Rattle.std.specs.Prelude.{IsSome, IsSomeAnd, ◌==◌, slice_get}
+use Rattle.std.specs.Prelude.{IsSome, IsSomeAnd, ◌==◌, codes, slice_get}
 use Rattle.std.specs.List.{position_or_len, slice_split}
-use Rattle.std.specs.Option.{option_and_then, option_map, is_some}
-use Rattle.std.specs.Str.{bytes_eq}
+use Rattle.std.specs.Option.{option_map}
 use Rattle.std.proofs.lemmas.Bool.{eq-eqb, le-ltb, ne_eqb}
 use Rattle.std.proofs.lemmas.List.{drop-take, get_or-take, length-drop, length-take-le, take-take, take_all}
 use Rattle.std.proofs.Math.Seq.{drop-cons, get_or-append_seam}
@@ -22,74 +21,43 @@ use Rattle.vast_value.specs.declared.cell.Cell.TheVariants as cell
 use Rattle.vast_value.specs.Headings.{Field, Heading, field_of}
 use Rattle.vast_value.specs.Layouts.{is_empty}
 use Rattle.value_reading.specs.declared.marks.Marks.{Marks}
-use Rattle.value_reading.specs.Escapes.{unescaped}
-use Rattle.value_reading.specs.Reading.{cell_read, container_read, element_read, elements_read, empty_value, is_text, kind_read, set_read, value_read}
+use Rattle.value_reading.specs.Reading.{cell_read}
 use Rattle.plain_cells.specs.Places.{CutsLine, cut_at, places_of}
 use Rattle.plain_cells.specs.Readable.{IsReadable}
+use Rattle.plain_cells.specs.Own.{IsOwnText}
+use Rattle.plain_cells.proofs.OwnTextLemmas.{dash_own, empty_set_own, empty_list_own}
 use Rattle.plain_cells.proofs.PlaceLemmas.{pieces_stand_between}
+use Rattle.plain_cells.proofs.ReadableLemmas.{text_readable, name_readable, text_set_readable, name_set_readable, text_list_readable, name_list_readable}
+use Rattle.value_text.specs.Writing.{AreUsual}
 use Rattle.zeek_log.specs.declared.fault.At.{At}
 use Rattle.zeek_log.specs.Heads.{Told}
 use Rattle.zeek_log.specs.Lines.{is_newline, is_too_long, pieces_of}
-use Rattle.zeek_log.specs.Plain.{AreInOrder, AreRead, IsPlain, cells_or_none, cut_before, is_of_texts, line_end, row_in, row_under, start_of}
+use Rattle.zeek_log.specs.Plain.{AreInOrder, AreRead, IsPlain, IsWrittenAs, cells_or_none, cut_before, is_of_texts, line_end, row_in, row_under, start_of}
 use Rattle.zeek_log.specs.Table.{Gives, Line, Outcome, cells_read, data_line, data_told, line_outcome, row_read, row_told, then_cell}
 
--- ---- cells of texts read whatever they are
-
-empty_or : (t : Bool) (marks : Marks) (e : Elem) (raw : List ℕ) → is_text e ≡ true → (v : Value) × (cond t (empty_value e) (value_read e (unescaped raw)) ≡ Some v)
-unfolding value_read
-empty_or true marks elem.Text raw text = (value.Text [], refl)
-empty_or true marks elem.Name raw text = (value.Name [], refl)
-empty_or false marks elem.Text raw text = (value.Text (unescaped raw), refl)
-empty_or false marks elem.Name raw text = (value.Name (unescaped raw), refl)
-empty_or t marks elem.Bool raw text = cc
-empty_or t marks elem.Count raw text = cc
-empty_or t marks elem.Int raw text = cc
-empty_or t marks elem.Time raw text = cc
-empty_or t marks elem.Span raw text = cc
-empty_or t marks elem.Addr raw text = cc
-empty_or t marks elem.Subnet raw text = cc
-empty_or t marks elem.Port raw text = cc
-
-text_set : (marks : Marks) (e : Elem) (raw : List ℕ) → is_text e ≡ true → (v : Value) × (set_read marks e raw ≡ Some v)
-text_set marks e raw text = rw text (empty_or (bytes_eq raw marks.empty) marks e raw text)
-
-element_some : (t : Bool) (marks : Marks) (e : Elem) (raw : List ℕ) → is_text e ≡ true → (x : Option Value) × (cond t (Some None) (option_map Some (set_read marks e raw)) ≡ Some x)
-element_some true marks e raw text = (None, refl)
-element_some false marks e raw text = let v = text_set marks e raw text in (Some v.0, ap (option_map Some) v.1)
-
-elements_some : (marks : Marks) (e : Elem) (raws : List (List ℕ)) → is_text e ≡ true → (xs : List (Option Value)) × (elements_read marks e raws ≡ Some xs)
-elements_some marks e [] text = ([], refl)
-elements_some marks e (raw ∷ raws) text =
-    let x = element_some (bytes_eq raw marks.unset) marks e raw text in
-    let xs = elements_some marks e raws text in
-    (x.0 ∷ xs.0, ap (option_and_then (λ y. option_map (λ ys. y ∷ ys) (elements_read marks e raws))) x.1 ∙ ap (option_map (λ ys. x.0 ∷ ys)) xs.1)
-
-some_map : {X Y : Type 0} (f : X → Y) (o : Option X) (x : X) → o ≡ Some x → IsSome (option_map f o)
-some_map {X = X} f o x is = ap (λ (p : Option X). is_some (option_map f p)) is
-
-container_some : (marks : Marks) (e : Elem) (raw : List ℕ) → is_text e ≡ true → IsSome (container_read marks e raw)
-container_some marks e raw text =
-    let rest : IsSome (option_map cell.Many (elements_read marks e (slice_split (λ b. b == marks.set_separator) raw))) =
-    (let xs = elements_some marks e (slice_split (λ b. b == marks.set_separator) raw) text in some_map cell.Many _ xs.0 xs.1) in
-    elim (bytes_eq raw marks.empty) as (λ t. IsSome (cond t (Some (cell.Many [])) (option_map cell.Many (elements_read marks e (slice_split (λ b. b == marks.set_separator) raw))))) [
-      | true ↦ refl
-      | false ↦ rest
-    ]
-
-kind_some : (marks : Marks) (k : Kind) (raw : List ℕ) → is_of_texts k ≡ true → IsSome (kind_read marks k raw)
-kind_some marks (kind.One e) raw text = let v = text_set marks e raw text in some_map cell.One _ v.0 v.1
-kind_some marks (kind.SetOf e) raw text = container_some marks e raw text
-kind_some marks (kind.VecOf e) raw text = container_some marks e raw text
+-- ---- cells that need no look at their bytes
 
 pub texts_readable : (k : Kind) (raw : List ℕ) → is_of_texts k ≡ true → IsReadable k raw
-unfolding cell_read
-texts_readable k raw text marks =
-    let set : IsSome (kind_read marks k raw) = kind_some marks k raw text in
-    elim (bytes_eq raw marks.unset) as (λ t. IsSome (cond t (Some cell.Unset) (kind_read marks k raw))) [ true ↦ refl | false ↦ set ]
+texts_readable (kind.One elem.Text) raw text = text_readable raw
+texts_readable (kind.One elem.Name) raw text = name_readable raw
+texts_readable (kind.SetOf elem.Text) raw text = text_set_readable raw
+texts_readable (kind.SetOf elem.Name) raw text = name_set_readable raw
+texts_readable (kind.VecOf elem.Text) raw text = text_list_readable raw
+texts_readable (kind.VecOf elem.Name) raw text = name_list_readable raw
+texts_readable _ raw text = cc
 
-pub unset_read : (marks : Marks) (k : Kind) (raw : List ℕ) → bytes_eq raw marks.unset ≡ true → IsSome (cell_read marks k raw)
-unfolding cell_read
-unset_read marks k raw is = rw is refl
+pub own_dash : (k : Kind) (raw : List ℕ) → raw ≡ codes "-" → IsOwnText k raw
+own_dash k raw is = subst (λ (r : List ℕ). IsOwnText k r) (sym is) (dash_own k)
+
+pub own_empty_set : (e : Elem) (raw : List ℕ) → raw ≡ codes "(empty)" → IsOwnText (kind.SetOf e) raw
+own_empty_set e raw is = subst (λ (r : List ℕ). IsOwnText (kind.SetOf e) r) (sym is) (empty_set_own e)
+
+pub own_empty_list : (e : Elem) (raw : List ℕ) → raw ≡ codes "(empty)" → IsOwnText (kind.VecOf e) raw
+own_empty_list e raw is = subst (λ (r : List ℕ). IsOwnText (kind.VecOf e) r) (sym is) (empty_list_own e)
+
+pub written_as : (o : Option Cell) (marks : Marks) (k : Kind) (raw : List ℕ) → AreUsual marks → IsOwnText k raw → cell_read marks k raw ≡ o → IsWrittenAs o raw
+written_as None marks k raw usual own is = tt
+written_as (Some x) marks k raw usual own is = own marks usual x is
 
 -- ---- raw texts that read make a row
 

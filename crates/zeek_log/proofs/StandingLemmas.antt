@@ -23,7 +23,7 @@ some_heading : (heading : Option Heading) (count : ℕ) → IsSomeAnd heading (�
 some_heading None count has = absurd has
 some_heading (Some h) count has = (h, refl)
 
-plain_count : (told : Told) (text places : List ℕ) (count : ℕ) → IsPlain told text places count
+pub plain_count : (told : Told) (text places : List ℕ) (count : ℕ) → IsPlain told text places count
     → length (cells_or_none (row_in told (take (line_end places count) text))) ≡ count
 plain_count told text places count plain =
     let h = some_heading told.heading count plain.columns in

@@ -7,6 +7,7 @@ use Rattle.vast_value.specs.declared.kind.Kind.TheVariants as kind
 use Rattle.vast_value.specs.Headings.{Field, Heading}
 use Rattle.value_text.specs.declared.Marks.{Marks}
 use Rattle.value_text.specs.Reading.{cell_read, is_text}
+use Rattle.value_text.specs.Writing.{cell_text}
 use Rattle.zeek_log.specs.declared.fault.At.{At}
 use Rattle.zeek_log.specs.declared.fault.ZeekFault.TheVariants.{NoHead}
 use Rattle.zeek_log.specs.Heads.{Told}
@@ -67,3 +68,8 @@ abbrev pub is_of_texts : Kind → Bool
 is_of_texts (kind.One elem) = is_text elem
 is_of_texts (kind.SetOf elem) = is_text elem
 is_of_texts (kind.VecOf elem) = is_text elem
+
+-- these bytes are how the cell is written, if there is one
+abbrev pub IsWrittenAs : Option Cell → List ℕ → Type 0
+IsWrittenAs None raw = Unit {0}
+IsWrittenAs (Some cell) raw = cell_text cell ≡ raw

@@ -19,6 +19,7 @@ mod names;
 mod near;
 mod opening;
 mod plain;
+mod plain_row;
 mod reader;
 mod step;
 #[cfg(test)]

@@ -1,5 +1,7 @@
 //! The lines of a log.
-ghost use Rattle.std.specs.Prelude.{◌≡◌, ◌<◌, ◌≤◌, ℕ, List, Option, [], true, None, Some, Ok, length, slice_get, take, is_some, IfOk, IfSome, OnOk, MatchOption};
+ghost use Rattle.std.specs.Prelude.{◌≡◌, ◌<◌, ◌≤◌, ◌++◌, ◌∷◌, ℕ, List, Option, [], true, None, Some, Ok, length, slice_get, take, is_some, IfOk, IfSome, OnOk, MatchOption};
+ghost use Rattle.std.specs.List.{flat_map};
+ghost use Rattle.value_text.specs.Writing.{cell_text};
 ghost use Rattle.zeek_log.specs.Plain.{line_end};
 ghost use Rattle.zeek_log.specs.Standing.{IsPlainAt, behind_line, line_cells, next_state};
 ghost use Rattle.vast_value.specs.Headings.{heading_of};
@@ -16,13 +18,14 @@ use crate::finding::{Found, find_line};
 use crate::known::Known;
 use crate::line::take_line;
 use crate::opening::opened;
-use crate::plain::{plain_cell, plain_line};
+use crate::plain::plain_line;
+use crate::plain_row::{plain_cell, write_plain};
 use crate::step::{Step, ZeekEnd};
 use source_block::{Block, Stop, Took};
 use std::alloc::{AllocError, Global};
 use std::marker::Model;
 use vast_io::Source;
-use vast_value::{Cell, Layout};
+use vast_value::{Bytes, Cell, Layout};
 
 /// How far a reader is.
 #[derive(Clone, Copy, Debug, PartialEq, Eq)]
@@ -153,6 +156,28 @@ impl LineReader {
             places,
             count,
             column,
+        )
+    }
+
+    /// Puts the cells of the plain line that is at the front of the bytes held behind what `out` holds, each as it is written
+    /// and behind a tab.
+    pub fn write_plain(
+        &self,
+        alloc: Global,
+        places: &[u32],
+        count: usize,
+        out: &mut Bytes,
+    ) -> Result<(), AllocError>
+        requires { IsPlainAt self.now.state self.now.held places.now count }
+        ensures { OnOk result (out.new ≡ out.old ++ flat_map (λ x. 9 ∷ cell_text x) (line_cells self.now.state (take (line_end places.now count) self.now.held))) }
+    {
+        write_plain(
+            alloc,
+            &self.known,
+            self.block.as_slice(),
+            places,
+            count,
+            out,
         )
     }
 

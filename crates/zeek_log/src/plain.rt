@@ -1,20 +1,20 @@
 //! Lines that are seen to be rows before any of their cells is read.
-ghost use Rattle.std.specs.Prelude.{◌≡◌, ◌≢◌, ◌+◌, ◌<◌, ◌≤◌, get_or, length, map, slice_get, take, IfOk, IfSome, IsSome, IsTrue};
+ghost use Rattle.std.specs.Prelude.{◌≡◌, ◌≢◌, ◌+◌, ◌<◌, ◌≤◌, get_or, length, map, take, IfSome, IsSome, IsTrue};
 ghost use Rattle.plain_cells.specs.Readable.{IsReadable};
 ghost use Rattle.vast_value.specs.Headings.{field_of};
 ghost use Rattle.value_text.specs.Reading.{cell_read, is_text};
 ghost use Rattle.vast_value.specs.declared.kind.Kind.{Kind};
 ghost use Rattle.zeek_log.specs.Answers.{told_of};
-ghost use Rattle.zeek_log.specs.Plain.{AreInOrder, AreRead, IsPlain, cells_or_none, cut_before, is_of_texts, line_end, row_in, start_of};
+ghost use Rattle.zeek_log.specs.Plain.{AreInOrder, AreRead, IsPlain, cut_before, is_of_texts};
 
 use crate::known::Known;
 use crate::line::MOST_LINE;
 use plain_cells::{
-    is_plain_address, is_plain_bool, is_plain_count, is_plain_port, is_plain_time, line_places,
+    is_plain_address, is_plain_bool, is_plain_count, is_plain_groups, is_plain_port, is_plain_time,
+    line_places,
 };
-use std::alloc::{AllocError, Global};
-use value_text::{CellEnd, Marks, read_cell};
-use vast_value::{Cell, Column, Elem, Kind};
+use value_text::Marks;
+use vast_value::{Column, Elem, Kind};
 
 /// So many bytes behind a line may be looked at with it.
 const SPARE: usize = 64;
@@ -43,46 +43,6 @@ pub fn plain_line(known: &Known, held: &[u8], places: &mut [u32]) -> Option<usiz
         return None;
     }
     Some(count)
-}
-
-/// The cell of a column of the plain line that is at the front of the bytes held.
-pub fn plain_cell(
-    alloc: Global,
-    known: &Known,
-    held: &[u8],
-    places: &[u32],
-    count: usize,
-    column: usize,
-) -> Result<Cell, AllocError>
-    requires plain { IsPlain (told_of known.now) held.now places.now count }
-    requires within { column < count }
-    ensures { IfOk result (λ cell. Some cell ≡ slice_get (cells_or_none (row_in (told_of known.now) (take (line_end places.now count) held.now))) column) }
-{
-    let Some(layout) = &known.layout else {
-        unreachable!()
-    };
-    let kind = layout.columns()[column].kind;
-    let from = start_of(places, column);
-    let to = places[column] as usize;
-    let (_, rest) = held.split_at(from);
-    let (raw, _) = rest.split_at(to - from);
-    match read_cell(alloc, kind, &known.marks, raw) {
-        Ok(cell) => Ok(cell),
-        Err(CellEnd::Memory) => Err(AllocError),
-        Err(CellEnd::BadText) => unreachable!(),
-    }
-}
-
-/// Where the cell of a column begins.
-#[inline(always)]
-fn start_of(places: &[u32], column: usize) -> usize
-    requires { column ≤ length places.now }
-    ensures { result ≡ start_of places.now column }
-{
-    if column == 0 {
-        return 0;
-    }
-    places[column - 1] as usize + 1
 }
 
 /// Whether a line of so many bytes is a data line, if its cells are well spelled, with enough bytes behind it.
@@ -128,7 +88,7 @@ fn is_plain(marks: &Marks, kind: Kind, text: &[u8], count: usize) -> bool
 }
 
 #[inline(always)]
-#[tactic(auto, using(crate::proofs::PlainLemmas::unset_read))]
+#[tactic(auto, using(plain_cells::proofs::ReadableLemmas::unset_read))]
 fn is_unset(marks: &Marks, text: &[u8], count: usize) -> bool
     requires { count ≤ length text.now }
     ensures { IsTrue result → (kind : Kind) → IsSome (cell_read marks.now kind (take count text.now)) }
@@ -178,7 +138,7 @@ fn is_plain_one(elem: Elem, text: &[u8], count: usize) -> bool
         Elem::Count => is_plain_count(text, count),
         Elem::Int => is_plain_count(text, count),
         Elem::Port => is_plain_port(text, count),
-        Elem::Addr => is_plain_address(text, count),
+        Elem::Addr => is_plain_address(text, count) || is_plain_groups(text, count),
         Elem::Time => is_plain_time(text, count),
         Elem::Span => is_plain_time(text, count),
         Elem::Bool => is_plain_bool(text, count),

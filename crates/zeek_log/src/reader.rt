@@ -1,8 +1,7 @@
 //! A reader that stands at a line.
-ghost use Rattle.std.specs.Prelude.{◌≡◌, ◌<◌, ◌≤◌, ◌++◌, ◌∷◌, [], None, Some, length, slice_get, is_some, IfOk, OnOk, MatchOption};
+ghost use Rattle.std.specs.Prelude.{◌≡◌, ◌<◌, ◌≤◌, ◌++◌, ◌∷◌, [], None, Some, length, is_some, IfOk, OnOk, MatchOption};
 ghost use Rattle.std.specs.List.{flat_map};
 ghost use Rattle.value_text.specs.Writing.{cell_text};
-ghost use Rattle.vast_value.specs.declared.cell.Cell.{Cell};
 ghost use Rattle.vast_value.specs.Headings.{heading_of};
 ghost use Rattle.zeek_log.specs.Finding.{most_kept};
 ghost use Rattle.zeek_log.specs.Going.{lines_left};
@@ -12,10 +11,10 @@ ghost use Rattle.zeek_log.specs.Standing.{StandsWell, standing};
 ghost use Rattle.zeek_log.specs.Steps.{step_of};
 
 use crate::line_reader::LineReader;
+use crate::plain_row::write_behind_tab;
 use crate::step::{Moved, Step, ZeekEnd};
 use std::alloc::{AllocError, Global};
 use std::marker::Model;
-use value_text::write_cell;
 use vast_io::Source;
 use vast_value::{Bytes, Cell, Layout, Row, RowView, SeenCell};
 
@@ -125,30 +124,10 @@ impl ZeekReader {
     pub fn write_row(&self, alloc: Global, out: &mut Bytes) -> Result<(), AllocError>
         ensures { OnOk result (out.new ≡ out.old ++ flat_map (λ x. 9 ∷ cell_text x) self.now.row) }
     {
-        for column in 0..self.row_len() {
-            self.write_cell(alloc, column, out)?;
-        }
-        Ok(())
-    }
-
-    /// Puts the cell of a column, if there is one, behind what `out` holds, as it is written and behind a tab.
-    fn write_cell(&self, alloc: Global, column: usize, out: &mut Bytes) -> Result<(), AllocError>
-        ensures { OnOk result ((x : Cell) → slice_get self.now.row column ≡ Some x → out.new ≡ out.old ++ 9 ∷ cell_text x) }
-    {
-        match self.cell(alloc, column)? {
-            Some(cell) => write_behind_tab(cell.get(), out),
-            None => Ok(()),
-        }
-    }
-
-    /// How many cells the row has.
-    fn row_len(&self) -> usize
-        ensures { result ≡ length self.now.row }
-    {
         match &self.current {
-            Current::Nowhere => 0,
-            Current::Made(row) => row.as_slice().len(),
-            Current::Plain(count) => *count,
+            Current::Nowhere => Ok(()),
+            Current::Made(row) => write_cells(row.as_slice(), out),
+            Current::Plain(count) => self.lines.write_plain(alloc, &self.places, *count, out),
         }
     }
 }
@@ -165,11 +144,13 @@ fn pass_current(lines: &mut LineReader, current: &mut Current, places: &[u32])
     *current = Current::Nowhere;
 }
 
-fn write_behind_tab(cell: &Cell, out: &mut Bytes) -> Result<(), AllocError>
-    ensures { OnOk result (out.new ≡ out.old ++ 9 ∷ cell_text cell.now) }
+fn write_cells(cells: &[Cell], out: &mut Bytes) -> Result<(), AllocError>
+    ensures { OnOk result (out.new ≡ out.old ++ flat_map (λ x. 9 ∷ cell_text x) cells.now) }
 {
-    out.push(b'\t')?;
-    write_cell(cell, out)
+    for cell in cells {
+        write_behind_tab(cell, out)?;
+    }
+    Ok(())
 }
 
 impl RowView for ZeekReader {
