@@ -2,6 +2,7 @@ mod AgreementLemmas
 mod NetLaws
 mod OrderLemmas
 pub mod PickLemmas
+pub mod ResolveLemmas
 mod PickLaws
 pub mod TextLemmas
 mod Vectors

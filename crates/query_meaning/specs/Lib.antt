@@ -3,3 +3,4 @@ pub mod Laws
 pub mod Meaning
 pub mod Picks
 pub mod Relations
+pub mod Resolving

@@ -1,5 +1,8 @@
 //! The expressions of queries.
+ghost use Rattle.std.specs.Prelude.{◌≡◌, IfOk};
+
 use sqlite_items::{Boxed, Items};
+use std::alloc::{AllocError, Global};
 use vast_value::{Bytes, Elem, Value};
 
 /// The members of an expression.
@@ -58,4 +61,16 @@ pub enum Literal {
     /// Unset.
     Nil,
     Of(Value),
+}
+
+impl Literal {
+    /// An equal copy.
+    pub fn duplicate(&self, alloc: Global) -> Result<Literal, AllocError>
+        ensures { IfOk result (λ copy. copy ≡ self.now) }
+    {
+        Ok(match self {
+            Literal::Nil => Literal::Nil,
+            Literal::Of(value) => Literal::Of(value.duplicate(alloc)?),
+        })
+    }
 }

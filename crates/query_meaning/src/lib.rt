@@ -7,6 +7,8 @@ mod laws;
 mod meaning;
 mod picks;
 mod relations;
+mod resolving;
+mod resolved;
 
 pub use agreement::agrees;
 pub use expr::{Expr, Exprs, Literal, Pick, Rel, Test};
@@ -16,3 +18,5 @@ pub use laws::{
 };
 pub use meaning::holds;
 pub use relations::{meets, text_meets};
+pub use resolving::resolve;
+pub use resolved::{Resolved, ResolvedTest};

@@ -68,7 +68,7 @@ fn kind_meets(test: &Test, columns: &[Column], cells: &[Cell], elem: Elem) -> bo
     false
 }
 
-fn is_of(elem: Elem, kind: Kind) -> bool
+pub(crate) fn is_of(elem: Elem, kind: Kind) -> bool
     ensures { result ≡ is_of elem kind }
 {
     match kind {

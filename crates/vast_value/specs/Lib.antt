@@ -6,3 +6,4 @@ pub mod Nets
 pub mod Ports
 pub mod ValueBytes
 pub mod Values
+pub mod Views

@@ -16,6 +16,7 @@ mod row;
 mod sequence;
 mod transport;
 mod value;
+mod view;
 
 pub use bytes::Bytes;
 pub use cell::{Cell, Cells};
@@ -29,6 +30,7 @@ pub use row::Row;
 pub use sequence::Seq;
 pub use transport::Transport;
 pub use value::Value;
+pub use view::{RowView, SeenCell};
 
 #[cfg(test)]
 mod tests {

@@ -8,10 +8,9 @@ use Rattle.source_block.specs.declared.stop.Stop.TheVariants.{AtEnd, Failed, AtB
 use Rattle.zeek_log.specs.declared.fault.LineEnd.{LineEnd}
 use Rattle.zeek_log.specs.declared.fault.LineEnd.TheVariants as lines
 use Rattle.zeek_log.specs.declared.fault.ZeekFault.TheVariants.{LineTooLong}
-use Rattle.zeek_log.specs.declared.reader.Phase.{Phase}
-use Rattle.zeek_log.specs.declared.reader.Phase.TheVariants as phase
+use Rattle.zeek_log.specs.declared.line_reader.Phase.{Phase}
+use Rattle.zeek_log.specs.declared.line_reader.Phase.TheVariants as phase
 use Rattle.zeek_log.specs.declared.step.Step.{Step}
-use Rattle.zeek_log.specs.declared.step.Step.TheVariants as step
 use Rattle.zeek_log.specs.declared.step.ZeekEnd.{ZeekEnd}
 use Rattle.zeek_log.specs.declared.step.ZeekEnd.TheVariants.{Done, Fault, ReadFault, TooLong, Memory}
 use Rattle.zeek_log.specs.Answers.{Does, Keeps, LineFits}
@@ -22,8 +21,8 @@ use Rattle.zeek_log.specs.Going.{GoesOn, Meets, LineAnswer, answer_of, end_of_li
 use Rattle.zeek_log.specs.Heads.{Told}
 use Rattle.zeek_log.specs.Lines.{lines_of}
 use Rattle.zeek_log.specs.Reader.{Reading, State, Reads, Last, Ended, IsMet, EndsAs, Closes, StepFits, heading_told, to_come}
-use Rattle.zeek_log.specs.Steps.{ended, end_of, follow, steps_from}
-use Rattle.zeek_log.specs.Table.{Outcome, line_outcome}
+use Rattle.zeek_log.specs.Steps.{ended, end_of, follow, step_of, steps_from}
+use Rattle.zeek_log.specs.Table.{LogStep, Head, Line, Outcome, line_outcome}
 use Rattle.zeek_log.proofs.LineLemmas.{line_first, line_last, line_long, no_line_failed, no_line_at_bound}
 
 keeps_same : (o : Option Heading) → Keeps o o
@@ -34,10 +33,10 @@ keeps_twice : (a b c : Option Heading) → Keeps a b → Keeps b c → Keeps a c
 keeps_twice a b None one two = tt
 keeps_twice a b (Some h) one two = subst (λ (o : Option Heading). Keeps a o) two one
 
-keeps_fits : (a b c : Option Heading) (s : Step) → Keeps a b → StepFits b c s → StepFits a c s
-keeps_fits a b c (step.Head layout) keeps fits = fits
-keeps_fits a None c (step.Line row) keeps fits = absurd fits.0
-keeps_fits a (Some h) c (step.Line row) keeps fits = subst (λ (o : Option Heading). StepFits o c (step.Line row)) (sym keeps) fits
+keeps_fits : (a b c : Option Heading) (s : LogStep) → Keeps a b → StepFits b c s → StepFits a c s
+keeps_fits a b c (Head heading) keeps fits = fits
+keeps_fits a None c (Line row) keeps fits = absurd fits.0
+keeps_fits a (Some h) c (Line row) keeps fits = subst (λ (o : Option Heading). StepFits o c (Line row)) (sym keeps) fits
 
 pub goes_nowhere : (r : Reading) (a : Option (List ℕ)) → is_reading r.state ≡ true → GoesOn r r a a
 goes_nowhere r a reads = record {
@@ -76,7 +75,7 @@ then_answer old mid new a b c (Ok (Some s)) one two = record {
     is = λ more stop may. ap (λ (xs : List ℕ). to_come old xs stop) (append_assoc one.took two.steps.took more) ∙ one.is (two.steps.took ++ more) stop ∙ two.steps.is more stop may;
     met = two.steps.met;
   };
-  fits = keeps_fits (heading_told old.state) (heading_told mid.state) (heading_told new.state) s one.keeps two.fits;
+  fits = keeps_fits (heading_told old.state) (heading_told mid.state) (heading_told new.state) (step_of s) one.keeps two.fits;
 }
 then_answer old mid new a b c (Err e) one two = record {
   took = one.took ++ two.took;

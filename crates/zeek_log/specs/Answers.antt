@@ -56,5 +56,5 @@ Keeps before now = IfSome now (λ heading. before ≡ Some heading)
 -- a line without a step begins no layout, and a step fits
 abbrev pub LineFits : Option Heading → Option Heading → Result (Option Step) LineEnd → Type 0
 LineFits before now (Ok None) = Keeps before now
-LineFits before now (Ok (Some step)) = StepFits before now step
+LineFits before now (Ok (Some step)) = StepFits before now (step_of step)
 LineFits before now (Err e) = ⊤

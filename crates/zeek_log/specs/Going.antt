@@ -9,13 +9,14 @@ use Rattle.zeek_log.specs.declared.step.ZeekEnd.TheVariants.{Fault}
 use Rattle.zeek_log.specs.declared.step.ZeekEnd.TheVariants as ends
 use Rattle.source_block.specs.Holding.{Hold, most_bytes}
 use Rattle.source_block.specs.declared.stop.Stop.{Stop}
-use Rattle.zeek_log.specs.declared.reader.Phase.{Phase}
-use Rattle.zeek_log.specs.declared.reader.Phase.TheVariants as phase
+use Rattle.zeek_log.specs.declared.line_reader.Phase.{Phase}
+use Rattle.zeek_log.specs.declared.line_reader.Phase.TheVariants as phase
 use Rattle.zeek_log.specs.declared.step.Step.{Step}
 use Rattle.zeek_log.specs.declared.step.ZeekEnd.{ZeekEnd}
 use Rattle.zeek_log.specs.Answers.{Keeps}
 use Rattle.zeek_log.specs.Heads.{Told}
 use Rattle.zeek_log.specs.Reader.{Reading, State, Reads, Last, Ended, to_come, StepsOn, EndsAs, heading_told, StepFits}
+use Rattle.zeek_log.specs.Steps.{step_of}
 
 -- a reader's state by how far it is, what is known, and the number of the next line
 abbrev pub state_of : Phase → Told → ℕ → State
@@ -45,8 +46,8 @@ pub record Meets (old new : Reading) (before now : Option (List ℕ)) (e : ZeekE
 
 -- a step, which fits
 pub record GivesStep (old new : Reading) (before now : Option (List ℕ)) (step : Step) : Type 0 where
-  pub steps : StepsOn old new before now step
-  pub fits : StepFits (heading_told old.state) (heading_told new.state) step
+  pub steps : StepsOn old new before now (step_of step)
+  pub fits : StepFits (heading_told old.state) (heading_told new.state) (step_of step)
 
 abbrev pub LineAnswer : Reading → Reading → Option (List ℕ) → Option (List ℕ) → Result (Option Step) ZeekEnd → Type 0
 LineAnswer old new before now (Ok None) = GoesOn old new before now

@@ -1,73 +1,52 @@
-//! The reader of a log.
-ghost use Rattle.std.specs.Prelude.{◌≡◌, ◌<◌, ◌≤◌, ℕ, List, Option, [], true, None, Some, Ok, length, is_some, IfOk, OnOk};
-ghost use Rattle.memchr.specs.Find.{IsFirstByte, is_byte};
-ghost use Rattle.source_block.specs.Taking.{Stops, Counts};
+//! A reader that stands at a line.
+ghost use Rattle.std.specs.Prelude.{◌≡◌, ◌<◌, ◌≤◌, ◌++◌, ◌∷◌, [], None, Some, is_some, IfOk, OnOk, MatchOption};
+ghost use Rattle.std.specs.List.{flat_map};
+ghost use Rattle.value_text.specs.Writing.{cell_text};
+ghost use Rattle.vast_value.specs.Headings.{heading_of};
 ghost use Rattle.zeek_log.specs.Finding.{most_kept};
-ghost use Rattle.zeek_log.specs.Going.{LineAnswer, LineCounts, answer_of, is_reading, lines_left};
+ghost use Rattle.zeek_log.specs.Going.{lines_left};
 ghost use Rattle.zeek_log.specs.Heads.{opening};
-ghost use Rattle.zeek_log.specs.Reader.{Answer, Follows, CountsBy, CountsOf, IsMet, Reads, StepFits, heading_told};
+ghost use Rattle.zeek_log.specs.Reader.{CountsOf, Follows, Reads, StepFits, given, heading_told, moved_to, step_at};
+ghost use Rattle.zeek_log.specs.Steps.{step_of};
 
-use crate::fault::{LineEnd, ZeekFault};
-use crate::finding::{Found, find_line};
-use crate::known::Known;
-use crate::line::take_line;
-use crate::opening::opened;
-use crate::step::{Step, ZeekEnd};
-use source_block::{Block, Stop, Took};
+use crate::line_reader::LineReader;
+use crate::step::{Moved, Step, ZeekEnd};
 use std::alloc::{AllocError, Global};
 use std::marker::Model;
+use value_text::write_cell;
 use vast_io::Source;
-
-/// How far a reader is.
-#[derive(Clone, Copy, Debug, PartialEq, Eq)]
-pub enum Phase {
-    /// Lines come.
-    Reads,
-    /// The last line, which no newline ended, gave a step.
-    Last,
-    /// Nothing more comes.
-    Ended(ZeekEnd),
-}
+use vast_value::{Bytes, Cell, Layout, Row, RowView, SeenCell};
 
 /// Reads a log from any source, line by line.
 ///
-/// It takes at most 2^36 bytes, and keeps memory for at most one line and a block of them. Contracts see what the lines so
-/// far told with the number of the next line, the bytes that it holds, how many it took, and for how many it keeps memory.
+/// It takes at most 2^36 bytes, and keeps memory for at most one line and a block of them. [`next`](ZeekReader::next)
+/// answers steps with what they hold. [`advance`](ZeekReader::advance) goes on to the next step, and the reader is then seen
+/// as the row of the line at which it stands, until the next call. Contracts see how far it is (what the lines so far told
+/// with the number of the next line, the bytes that it holds, how many it took, and for how many it keeps memory), and the
+/// cells of that row, none where it stands at no line.
 #[derive(Drop)]
 pub struct ZeekReader {
-    phase: Phase,
-    known: Known,
-    line: u64,
-    block: Block,
+    lines: LineReader,
+    current: Row,
 }
 
 impl Model for ZeekReader {
-    ghost use Rattle.std.specs.Prelude.{◌≤◌, ◌+◌, length};
-    ghost use Rattle.zeek_log.specs.Answers.{told_of};
-    ghost use Rattle.zeek_log.specs.Going.{state_of};
-    ghost use Rattle.zeek_log.specs.Reader.{Reading};
-    ghost use Rattle.source_block.specs.Holding.{most_bytes};
-    ghost use Rattle.zeek_log.specs.Finding.{most_kept};
+    ghost use Rattle.zeek_log.specs.Reader.{Standing};
 
-    ghost Value = { Reading };
+    ghost Value = { Standing };
 
-    ghost view = { λ r. record { state = state_of r.phase (told_of r.known) r.line; held = r.block.bytes; taken = r.block.taken; kept = r.block.kept } };
-
-    ghost invariant = { λ r. (r.line + length r.block.bytes ≤ r.block.taken + 1) × (r.block.taken ≤ most_bytes) × (r.block.kept ≤ most_kept) };
+    ghost view = { λ r. record { at = r.lines; row = r.current } };
 }
 
 impl ZeekReader {
     /// A reader that has read nothing.
     pub fn new(alloc: Global) -> Result<Self, AllocError>
-        ensures { IfOk result (λ reader. reader ≡ record { state = Reads opening 1; held = []; taken = 0; kept = 65536 }) }
+        ensures { IfOk result (λ reader. reader ≡ record { at = record { state = Reads opening 1; held = []; taken = 0; kept = 65536 }; row = [] }) }
     {
-        let known = opened(alloc, b'\t')?;
-        let block = Block::new(alloc)?;
+        let lines = LineReader::new(alloc)?;
         Ok(ZeekReader {
-            phase: Phase::Reads,
-            known,
-            line: 1,
-            block,
+            lines,
+            current: Row::new(alloc),
         })
     }
 
@@ -77,135 +56,73 @@ impl ZeekReader {
     /// source's count of faults rose, and `TooLong` where 2^36 bytes were taken. After any end every later call gives
     /// the same.
     pub fn next<S: Source>(&mut self, alloc: Global, source: &mut S) -> Result<Step, ZeekEnd>
-        ensures next { Follows self.old.state self.old self.new (S.left source.old) (S.left source.new) result }
-        ensures counts { CountsOf self.old.state result (S.faults source.old) (S.faults source.new) }
-        ensures fits { IfOk result (λ step. StepFits (heading_told self.old.state) (heading_told self.new.state) step) }
+        ensures next { Follows self.old.at.state self.old.at self.new.at (S.left source.old) (S.left source.new) (given result) }
+        ensures counts { CountsOf self.old.at.state (given result) (S.faults source.old) (S.faults source.new) }
+        ensures fits { IfOk result (λ step. StepFits (heading_told self.old.at.state) (heading_told self.new.at.state) (step_of step)) }
         ensures tells { is_some (S.left source.new) ≡ is_some (S.left source.old) }
-        ensures less { OnOk result (lines_left self.new.state < lines_left self.old.state) }
-        ensures kept { self.new.kept ≤ most_kept }
+        ensures less { OnOk result (lines_left self.new.at.state < lines_left self.old.at.state) }
+        ensures kept { self.new.at.kept ≤ most_kept }
+        ensures row { self.new.row ≡ [] }
     {
-        match self.phase {
-            Phase::Ended(end) => Err(end),
-            Phase::Last => {
-                self.phase = Phase::Ended(ZeekEnd::Done);
-                Err(ZeekEnd::Done)
-            }
-            Phase::Reads => self.go_on(alloc, source),
-        }
+        self.current = Row::new(alloc);
+        self.lines.next(alloc, source)
     }
 
-    /// Takes lines until one gives a step or nothing more comes.
-    fn go_on<S: Source>(&mut self, alloc: Global, source: &mut S) -> Result<Step, ZeekEnd>
-        requires { is_reading self.old.state ≡ true }
-        ensures next { Answer self.old self.new (S.left source.old) (S.left source.new) result }
-        ensures counts { CountsBy result (S.faults source.old) (S.faults source.new) }
-        ensures fits { IfOk result (λ step. StepFits (heading_told self.old.state) (heading_told self.new.state) step) }
-        ensures less { OnOk result (lines_left self.new.state < lines_left self.old.state) }
-        ensures kept { self.new.kept ≤ most_kept }
+    /// Goes on to the next step of the log, as [`next`](ZeekReader::next), and stands there.
+    pub fn advance<S: Source>(&mut self, alloc: Global, source: &mut S) -> Result<Moved, ZeekEnd>
+        ensures next { Follows self.old.at.state self.old.at self.new.at (S.left source.old) (S.left source.new) (moved_to self.new result) }
+        ensures counts { CountsOf self.old.at.state (moved_to self.new result) (S.faults source.old) (S.faults source.new) }
+        ensures fits { IfOk result (λ moved. StepFits (heading_told self.old.at.state) (heading_told self.new.at.state) (step_at self.new moved)) }
+        ensures tells { is_some (S.left source.new) ≡ is_some (S.left source.old) }
+        ensures less { OnOk result (lines_left self.new.at.state < lines_left self.old.at.state) }
+        ensures kept { self.new.at.kept ≤ most_kept }
     {
-        loop {
-            match self.take_next(alloc, source) {
-                Ok(Some(step)) => return Ok(step),
-                Ok(None) => {}
-                Err(end) => {
-                    self.phase = Phase::Ended(end);
-                    return Err(end);
-                }
+        self.current = Row::new(alloc);
+        match self.lines.next(alloc, source)? {
+            Step::Head(_) => Ok(Moved::Head),
+            Step::Line(row) => {
+                self.current = row;
+                Ok(Moved::Line)
             }
         }
     }
 
-    /// Takes the next line.
-    fn take_next<S: Source>(
-        &mut self,
-        alloc: Global,
-        source: &mut S,
-    ) -> Result<Option<Step>, ZeekEnd>
-        requires { is_reading self.old.state ≡ true }
-        ensures next { LineAnswer self.old self.new (S.left source.old) (S.left source.new) result }
-        ensures counts { LineCounts result (S.faults source.old) (S.faults source.new) }
-        ensures less { OnOk result (lines_left self.new.state < lines_left self.old.state) }
-        ensures kept { self.new.kept ≤ most_kept }
+    /// The layout of the last head, if it stands.
+    pub fn layout(&self) -> Option<&Layout>
+        ensures { MatchOption result (heading_told self.now.at.state ≡ None) (λ layout. heading_told self.now.at.state ≡ Some (heading_of layout.now)) }
     {
-        match find_line(&mut self.block, source)? {
-            Found::Line(count) => self.take_ended(alloc, count),
-            Found::Long => Err(ZeekEnd::Fault {
-                line: self.line,
-                column: 0,
-                what: ZeekFault::LineTooLong,
-            }),
-            Found::Stopped(stop) => self.take_rest(alloc, stop),
-        }
+        self.lines.layout()
     }
 
-    /// What is held is no line, and no more bytes come.
-    fn take_rest(&mut self, alloc: Global, stop: Stop) -> Result<Option<Step>, ZeekEnd>
-        requires reads { is_reading self.old.state ≡ true }
-        requires found { IsFirstByte (is_byte 10) self.old.held None }
-        requires short { length self.old.held ≤ 1048576 }
-        ensures next { (now : Option (List ℕ)) → Stops stop now self.old.taken → LineAnswer self.old self.new now now result }
-        ensures counts { (before now : ℕ) → Counts (Ok (Took.Stopped stop)) before now → LineCounts result before now }
-        ensures some { result ≡ Ok None → ⊥ }
-        ensures less { OnOk result (lines_left self.new.state < lines_left self.old.state) }
-        ensures kept { self.old.kept ≤ most_kept → self.new.kept ≤ most_kept }
+    /// The row of the line at which the reader stands.
+    pub fn row(&self, alloc: Global) -> Result<Row, AllocError>
+        ensures { IfOk result (λ row. row ≡ self.now.row) }
     {
-        match stop {
-            Stop::AtEnd => self.take_last(alloc),
-            Stop::Failed => Err(ZeekEnd::ReadFault),
-            Stop::AtBound => Err(ZeekEnd::TooLong),
-        }
+        self.current.duplicate(alloc)
     }
 
-    /// Takes a line of so many bytes, and its newline.
-    fn take_ended(&mut self, alloc: Global, count: usize) -> Result<Option<Step>, ZeekEnd>
-        requires reads { is_reading self.old.state ≡ true }
-        requires found { IsFirstByte (is_byte 10) self.old.held (Some count) }
-        ensures next { (now : Option (List ℕ)) → LineAnswer self.old self.new now now result }
-        ensures counts { (n : ℕ) → LineCounts result n n }
-        ensures less { OnOk result (lines_left self.new.state < lines_left self.old.state) }
-        ensures kept { self.new.kept ≤ most_kept }
+    /// Puts the cells of the line at which the reader stands behind what `out` holds, each as it is written and behind a tab.
+    pub fn write_row(&self, out: &mut Bytes) -> Result<(), AllocError>
+        ensures { OnOk result (out.new ≡ out.old ++ flat_map (λ x. 9 ∷ cell_text x) self.now.row) }
     {
-        let (line, _) = self.block.as_slice().split_at(count);
-        let outcome = take_line(alloc, &mut self.known, line);
-        self.block.skip(count + 1);
-        let number = self.line;
-        self.line += 1;
-        answer_of(number, outcome)
-    }
-
-    /// Takes what is held as the last line.
-    fn take_last(&mut self, alloc: Global) -> Result<Option<Step>, ZeekEnd>
-        requires reads { is_reading self.old.state ≡ true }
-        requires found { IsFirstByte (is_byte 10) self.old.held None }
-        ensures next { (now : Option (List ℕ)) → IsMet now self.old.taken → LineAnswer self.old self.new now now result }
-        ensures counts { (n : ℕ) → LineCounts result n n }
-        ensures some { result ≡ Ok None → ⊥ }
-        ensures less { OnOk result (lines_left self.new.state < lines_left self.old.state) }
-        ensures kept { self.new.kept ≤ most_kept }
-    {
-        let outcome = take_line(alloc, &mut self.known, self.block.as_slice());
-        match answer_of(self.line, outcome) {
-            Ok(Some(step)) => {
-                self.phase = Phase::Last;
-                Ok(Some(step))
-            }
-            Ok(None) => Err(ZeekEnd::Done),
-            Err(end) => Err(end),
+        for cell in self.current.as_slice() {
+            write_behind_tab(cell, out)?;
         }
+        Ok(())
     }
 }
 
-/// A line's outcome as an answer, where the line has this number.
-fn answer_of(number: u64, outcome: Result<Option<Step>, LineEnd>) -> Result<Option<Step>, ZeekEnd>
-    ensures { result ≡ answer_of number outcome }
+fn write_behind_tab(cell: &Cell, out: &mut Bytes) -> Result<(), AllocError>
+    ensures { OnOk result (out.new ≡ out.old ++ 9 ∷ cell_text cell.now) }
 {
-    match outcome {
-        Ok(step) => Ok(step),
-        Err(LineEnd::Bad(at)) => Err(ZeekEnd::Fault {
-            line: number,
-            column: at.column,
-            what: at.what,
-        }),
-        Err(LineEnd::Memory) => Err(ZeekEnd::Memory),
+    out.push(b'\t')?;
+    write_cell(cell, out)
+}
+
+impl RowView for ZeekReader {
+    ghost cells = { λ reader. reader.row };
+
+    fn cell(&self, alloc: Global, column: usize) -> Result<Option<SeenCell<'_>>, AllocError> {
+        self.current.cell(alloc, column)
     }
 }

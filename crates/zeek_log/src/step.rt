@@ -15,6 +15,15 @@ pub enum Step {
     Line(Row),
 }
 
+/// Where a reader stands that went on by itself.
+#[derive(Clone, Copy, Debug, PartialEq, Eq)]
+pub enum Moved {
+    /// At a head: a layout begins.
+    Head,
+    /// At a row of the last layout.
+    Line,
+}
+
 /// Why a reader gives no more steps. Once given, it is given again.
 #[derive(Clone, Copy, Debug, PartialEq, Eq)]
 pub enum ZeekEnd {

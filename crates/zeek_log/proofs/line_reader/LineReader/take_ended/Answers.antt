@@ -1,7 +1,7 @@
 use Rattle.std.proofs.Common.{sym}
 use Rattle.zeek_log.specs.Answers.{told_of}
 use Rattle.zeek_log.proofs.GoingLemmas.{ended_line_at}
-use Rattle.zeek_log.proofs.reader.ZeekReader.take_ended.Goals as goal
+use Rattle.zeek_log.proofs.line_reader.LineReader.take_ended.Goals as goal
 
 pub returns-clause-next : goal.returns-clause-next
 returns-clause-next c =

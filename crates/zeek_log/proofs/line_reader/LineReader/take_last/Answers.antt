@@ -2,7 +2,7 @@ use Rattle.std.proofs.Common.{Ok, ap, refl, sym, ◌∙◌}
 use Rattle.zeek_log.specs.Answers.{told_of}
 use Rattle.zeek_log.specs.Going.{reading}
 use Rattle.zeek_log.proofs.GoingLemmas.{last_step_at, last_none_at, last_end_at}
-use Rattle.zeek_log.proofs.reader.ZeekReader.take_last.Goals as goal
+use Rattle.zeek_log.proofs.line_reader.LineReader.take_last.Goals as goal
 
 pub returns-in-Ok-Some-clause-next : goal.returns-in-Ok-Some-clause-next
 returns-in-Ok-Some-clause-next c =

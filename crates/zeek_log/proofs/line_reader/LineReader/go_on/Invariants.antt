@@ -1,7 +1,7 @@
 -- The lines so far gave no step.
 use Rattle.std.proofs.Common.{◌≡◌, ◌≤◌}
 use Rattle.zeek_log.specs.Going.{GoesOn, lines_left}
-use Rattle.zeek_log.proofs.reader.ZeekReader.go_on.Given as goal
+use Rattle.zeek_log.proofs.line_reader.LineReader.go_on.Given as goal
 
 abbrev pub invariant-loop-step : goal.invariant-loop-step
 invariant-loop-step g l = record {

@@ -1,11 +1,11 @@
 use Rattle.std.proofs.Common.{Option, Ok, Err, Some, None, arith, ap, subst, refl, ◌∙◌}
-use Rattle.zeek_log.specs.declared.reader.Phase.TheVariants.{Ended}
+use Rattle.zeek_log.specs.declared.line_reader.Phase.TheVariants.{Ended}
 use Rattle.zeek_log.specs.declared.step.Step.{Step}
 use Rattle.zeek_log.specs.Answers.{told_of}
 use Rattle.zeek_log.specs.Going.{LineAnswer, reading}
 use Rattle.zeek_log.specs.Reader.{Reading}
 use Rattle.zeek_log.proofs.GoingLemmas.{then_answer, closes}
-use Rattle.zeek_log.proofs.reader.ZeekReader.go_on.Goals as goal
+use Rattle.zeek_log.proofs.line_reader.LineReader.go_on.Goals as goal
 
 pub returns-in-Ok-Some-clause-next : goal.returns-in-Ok-Some-clause-next
 returns-in-Ok-Some-clause-next g c =

@@ -1,5 +1,5 @@
 use Rattle.zeek_log.proofs.GoingLemmas.{failed_there, bound_there}
-use Rattle.zeek_log.proofs.reader.ZeekReader.take_rest.Goals as goal
+use Rattle.zeek_log.proofs.line_reader.LineReader.take_rest.Goals as goal
 
 pub returns-in-Failed-clause-next : goal.returns-in-Failed-clause-next
 returns-in-Failed-clause-next c now why =

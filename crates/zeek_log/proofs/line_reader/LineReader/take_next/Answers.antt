@@ -2,7 +2,7 @@ use Rattle.std.proofs.Common.{sym}
 use Rattle.zeek_log.specs.Answers.{told_of}
 use Rattle.zeek_log.specs.Going.{reading}
 use Rattle.zeek_log.proofs.GoingLemmas.{then_answer, goes_at, long_at}
-use Rattle.zeek_log.proofs.reader.ZeekReader.take_next.Goals as goal
+use Rattle.zeek_log.proofs.line_reader.LineReader.take_next.Goals as goal
 
 pub returns-in-Line-clause-next : goal.returns-in-Line-clause-next
 returns-in-Line-clause-next g c =

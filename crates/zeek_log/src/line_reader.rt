@@ -1,0 +1,224 @@
+//! The lines of a log.
+ghost use Rattle.std.specs.Prelude.{◌≡◌, ◌<◌, ◌≤◌, ℕ, List, Option, [], true, None, Some, Ok, length, is_some, IfOk, OnOk, MatchOption};
+ghost use Rattle.vast_value.specs.Headings.{heading_of};
+ghost use Rattle.memchr.specs.Find.{IsFirstByte, is_byte};
+ghost use Rattle.source_block.specs.Taking.{Stops, Counts};
+ghost use Rattle.zeek_log.specs.Finding.{most_kept};
+ghost use Rattle.zeek_log.specs.Going.{LineAnswer, LineCounts, answer_of, is_reading, lines_left};
+ghost use Rattle.zeek_log.specs.Heads.{opening};
+ghost use Rattle.zeek_log.specs.Reader.{Answer, Follows, CountsBy, CountsOf, IsMet, Reads, StepFits, given, heading_told};
+ghost use Rattle.zeek_log.specs.Steps.{step_of};
+
+use crate::fault::{LineEnd, ZeekFault};
+use crate::finding::{Found, find_line};
+use crate::known::Known;
+use crate::line::take_line;
+use crate::opening::opened;
+use crate::step::{Step, ZeekEnd};
+use source_block::{Block, Stop, Took};
+use std::alloc::{AllocError, Global};
+use std::marker::Model;
+use vast_io::Source;
+use vast_value::Layout;
+
+/// How far a reader is.
+#[derive(Clone, Copy, Debug, PartialEq, Eq)]
+pub enum Phase {
+    /// Lines come.
+    Reads,
+    /// The last line, which no newline ended, gave a step.
+    Last,
+    /// Nothing more comes.
+    Ended(ZeekEnd),
+}
+
+/// Reads a log line by line.
+///
+/// It takes at most 2^36 bytes, and keeps memory for at most one line and a block of them. Contracts see what the lines so
+/// far told with the number of the next line, the bytes that it holds, how many it took, and for how many it keeps memory.
+#[derive(Drop)]
+pub struct LineReader {
+    phase: Phase,
+    known: Known,
+    line: u64,
+    block: Block,
+}
+
+impl Model for LineReader {
+    ghost use Rattle.std.specs.Prelude.{◌≤◌, ◌+◌, length};
+    ghost use Rattle.zeek_log.specs.Answers.{told_of};
+    ghost use Rattle.zeek_log.specs.Going.{state_of};
+    ghost use Rattle.zeek_log.specs.Reader.{Reading};
+    ghost use Rattle.source_block.specs.Holding.{most_bytes};
+    ghost use Rattle.zeek_log.specs.Finding.{most_kept};
+
+    ghost Value = { Reading };
+
+    ghost view = { λ r. record { state = state_of r.phase (told_of r.known) r.line; held = r.block.bytes; taken = r.block.taken; kept = r.block.kept } };
+
+    ghost invariant = { λ r. (r.line + length r.block.bytes ≤ r.block.taken + 1) × (r.block.taken ≤ most_bytes) × (r.block.kept ≤ most_kept) };
+}
+
+impl LineReader {
+    /// A reader that has read nothing.
+    pub fn new(alloc: Global) -> Result<Self, AllocError>
+        ensures { IfOk result (λ reader. reader ≡ record { state = Reads opening 1; held = []; taken = 0; kept = 65536 }) }
+    {
+        let known = opened(alloc, b'\t')?;
+        let block = Block::new(alloc)?;
+        Ok(LineReader {
+            phase: Phase::Reads,
+            known,
+            line: 1,
+            block,
+        })
+    }
+
+    /// The next step of the log, or why there is none.
+    ///
+    /// A fault comes at the first line with one, in the order of the table's checks. `ReadFault` comes exactly where the
+    /// source's count of faults rose, and `TooLong` where 2^36 bytes were taken. After any end every later call gives
+    /// the same.
+    pub fn next<S: Source>(&mut self, alloc: Global, source: &mut S) -> Result<Step, ZeekEnd>
+        ensures next { Follows self.old.state self.old self.new (S.left source.old) (S.left source.new) (given result) }
+        ensures counts { CountsOf self.old.state (given result) (S.faults source.old) (S.faults source.new) }
+        ensures fits { IfOk result (λ step. StepFits (heading_told self.old.state) (heading_told self.new.state) (step_of step)) }
+        ensures tells { is_some (S.left source.new) ≡ is_some (S.left source.old) }
+        ensures less { OnOk result (lines_left self.new.state < lines_left self.old.state) }
+        ensures kept { self.new.kept ≤ most_kept }
+    {
+        match self.phase {
+            Phase::Ended(end) => Err(end),
+            Phase::Last => {
+                self.phase = Phase::Ended(ZeekEnd::Done);
+                Err(ZeekEnd::Done)
+            }
+            Phase::Reads => self.go_on(alloc, source),
+        }
+    }
+
+    /// The layout of the last head, if it stands.
+    pub fn layout(&self) -> Option<&Layout>
+        ensures { MatchOption result (heading_told self.now.state ≡ None) (λ layout. heading_told self.now.state ≡ Some (heading_of layout.now)) }
+    {
+        match self.phase {
+            Phase::Ended(_) => None,
+            _ => self.known.layout.as_ref(),
+        }
+    }
+
+    /// Takes lines until one gives a step or nothing more comes.
+    fn go_on<S: Source>(&mut self, alloc: Global, source: &mut S) -> Result<Step, ZeekEnd>
+        requires { is_reading self.old.state ≡ true }
+        ensures next { Answer self.old self.new (S.left source.old) (S.left source.new) (given result) }
+        ensures counts { CountsBy (given result) (S.faults source.old) (S.faults source.new) }
+        ensures fits { IfOk result (λ step. StepFits (heading_told self.old.state) (heading_told self.new.state) (step_of step)) }
+        ensures less { OnOk result (lines_left self.new.state < lines_left self.old.state) }
+        ensures kept { self.new.kept ≤ most_kept }
+    {
+        loop {
+            match self.take_next(alloc, source) {
+                Ok(Some(step)) => return Ok(step),
+                Ok(None) => {}
+                Err(end) => {
+                    self.phase = Phase::Ended(end);
+                    return Err(end);
+                }
+            }
+        }
+    }
+
+    /// Takes the next line.
+    fn take_next<S: Source>(
+        &mut self,
+        alloc: Global,
+        source: &mut S,
+    ) -> Result<Option<Step>, ZeekEnd>
+        requires { is_reading self.old.state ≡ true }
+        ensures next { LineAnswer self.old self.new (S.left source.old) (S.left source.new) result }
+        ensures counts { LineCounts result (S.faults source.old) (S.faults source.new) }
+        ensures less { OnOk result (lines_left self.new.state < lines_left self.old.state) }
+        ensures kept { self.new.kept ≤ most_kept }
+    {
+        match find_line(&mut self.block, source)? {
+            Found::Line(count) => self.take_ended(alloc, count),
+            Found::Long => Err(ZeekEnd::Fault {
+                line: self.line,
+                column: 0,
+                what: ZeekFault::LineTooLong,
+            }),
+            Found::Stopped(stop) => self.take_rest(alloc, stop),
+        }
+    }
+
+    /// What is held is no line, and no more bytes come.
+    fn take_rest(&mut self, alloc: Global, stop: Stop) -> Result<Option<Step>, ZeekEnd>
+        requires reads { is_reading self.old.state ≡ true }
+        requires found { IsFirstByte (is_byte 10) self.old.held None }
+        requires short { length self.old.held ≤ 1048576 }
+        ensures next { (now : Option (List ℕ)) → Stops stop now self.old.taken → LineAnswer self.old self.new now now result }
+        ensures counts { (before now : ℕ) → Counts (Ok (Took.Stopped stop)) before now → LineCounts result before now }
+        ensures some { result ≡ Ok None → ⊥ }
+        ensures less { OnOk result (lines_left self.new.state < lines_left self.old.state) }
+        ensures kept { self.old.kept ≤ most_kept → self.new.kept ≤ most_kept }
+    {
+        match stop {
+            Stop::AtEnd => self.take_last(alloc),
+            Stop::Failed => Err(ZeekEnd::ReadFault),
+            Stop::AtBound => Err(ZeekEnd::TooLong),
+        }
+    }
+
+    /// Takes a line of so many bytes, and its newline.
+    fn take_ended(&mut self, alloc: Global, count: usize) -> Result<Option<Step>, ZeekEnd>
+        requires reads { is_reading self.old.state ≡ true }
+        requires found { IsFirstByte (is_byte 10) self.old.held (Some count) }
+        ensures next { (now : Option (List ℕ)) → LineAnswer self.old self.new now now result }
+        ensures counts { (n : ℕ) → LineCounts result n n }
+        ensures less { OnOk result (lines_left self.new.state < lines_left self.old.state) }
+        ensures kept { self.new.kept ≤ most_kept }
+    {
+        let (line, _) = self.block.as_slice().split_at(count);
+        let outcome = take_line(alloc, &mut self.known, line);
+        self.block.skip(count + 1);
+        let number = self.line;
+        self.line += 1;
+        answer_of(number, outcome)
+    }
+
+    /// Takes what is held as the last line.
+    fn take_last(&mut self, alloc: Global) -> Result<Option<Step>, ZeekEnd>
+        requires reads { is_reading self.old.state ≡ true }
+        requires found { IsFirstByte (is_byte 10) self.old.held None }
+        ensures next { (now : Option (List ℕ)) → IsMet now self.old.taken → LineAnswer self.old self.new now now result }
+        ensures counts { (n : ℕ) → LineCounts result n n }
+        ensures some { result ≡ Ok None → ⊥ }
+        ensures less { OnOk result (lines_left self.new.state < lines_left self.old.state) }
+        ensures kept { self.new.kept ≤ most_kept }
+    {
+        let outcome = take_line(alloc, &mut self.known, self.block.as_slice());
+        match answer_of(self.line, outcome) {
+            Ok(Some(step)) => {
+                self.phase = Phase::Last;
+                Ok(Some(step))
+            }
+            Ok(None) => Err(ZeekEnd::Done),
+            Err(end) => Err(end),
+        }
+    }
+}
+
+/// A line's outcome as an answer, where the line has this number.
+fn answer_of(number: u64, outcome: Result<Option<Step>, LineEnd>) -> Result<Option<Step>, ZeekEnd>
+    ensures { result ≡ answer_of number outcome }
+{
+    match outcome {
+        Ok(step) => Ok(step),
+        Err(LineEnd::Bad(at)) => Err(ZeekEnd::Fault {
+            line: number,
+            column: at.column,
+            what: at.what,
+        }),
+        Err(LineEnd::Memory) => Err(ZeekEnd::Memory),
+    }
+}
