@@ -4,3 +4,8 @@ pub mod RefusalLemmas
 pub mod TableLemmas
 pub mod AnswerLemmas
 pub mod PartLemmas
+pub mod WordBits
+pub mod MarkLemmas
+pub mod BlockLemmas
+pub mod AskLemmas
+pub mod MergeLemmas
