@@ -1,8 +1,8 @@
 pub mod BitwiseLemmas
 pub mod NumberLemmas
 pub mod RefusalLemmas
-pub mod TableLemmas
 pub mod AnswerLemmas
+pub mod TableLemmas
 pub mod PartLemmas
 pub mod WordBits
 pub mod MarkLemmas

@@ -1,44 +1,19 @@
 -- A word is added to a line at any row, and the lines of other blocks word by word.
 use Rattle.std.proofs.Common.{◌≡◌, ◌≢◌, ℕ, zero, suc, ◌+◌, ◌-◌, ◌*◌, ◌/◌, ◌%◌, ◌^◌, ◌<◌, ◌≤◌, Bool, true, false, eqb, ◌||◌, List, [], ◌∷◌, ◌++◌, length, get_or, set, replicate, refl, ap, sym, ◌∙◌, subst, inl, inr, arith}
 use Rattle.std.specs.Prelude.{bit_or}
-use Rattle.std.specs.Int.{bit_at}
 use Rattle.std.proofs.lemmas.Bool.{cases_eq, cases_lt}
-use Rattle.std.proofs.lemmas.Nat.{shr-shr, shr_split, pow_pos, same_from_place, mul-add-lt, div-add-mod', mod_below, div_below}
-use Rattle.std.proofs.lemmas.Nat.Bits.{bit_at_cat_low, bit_at_cat_high, bit_at_above, bit_at-zero}
+use Rattle.std.proofs.lemmas.Nat.{same_from_place, mul-add-lt, div-add-mod', mod_below, div_below}
 use Rattle.std.proofs.Math.Nat.{mul-le-mul_right}
 use Rattle.std.proofs.lemmas.List.{length-set, get_or-set_same, get_or-set_other, get_or_past}
 use Rattle.bits_law.specs.Contents.{Contents, IsJoined}
 use Rattle.bits_law.specs.Numbers.{has_bit}
 use Rattle.bits_law.specs.Blocks.{blocks, cell, line_of, held, IsLaid, IsMerged, IsExtended}
-use Rattle.bits_law.proofs.WordBits.{bit-none, bit-or}
+use Rattle.bits_law.proofs.WordBits.{bit-none, bit-or, up_low, up_high, down, down_past}
 use Rattle.bits_law.proofs.BlockLemmas.{cell_grown, held_wide, held_column, line_joined, room_for}
 
 or_false : (x : Bool) → x ≡ (x || false)
 or_false true = refl
 or_false false = refl
-
--- the bits of a word that is shifted up, and of one that is shifted down
-up_low : (word s p : ℕ) → p < s → s < 64 → has_bit (word * 2 ^ s % 2 ^ 64) p ≡ false
-up_low word s p l u =
-    ap (λ x. eqb x 1)
-    (sym (bit_at_cat_low (word * 2 ^ s / 2 ^ 64) 64 (word * 2 ^ s % 2 ^ 64) p (omega arith))
-    ∙ ap (λ n. bit_at n p) (shr_split (word * 2 ^ s) 64)
-    ∙ ap (λ n. bit_at n p) (let e : word * 2 ^ s ≡ word * 2 ^ s + 0 = omega arith in e)
-    ∙ bit_at_cat_low word s 0 p l ∙ bit_at-zero p)
-
-up_high : (word s p : ℕ) → s ≤ p → p < 64 → has_bit (word * 2 ^ s % 2 ^ 64) p ≡ has_bit word (p - s)
-up_high word s p l u =
-    ap (λ x. eqb x 1)
-    (sym (bit_at_cat_low (word * 2 ^ s / 2 ^ 64) 64 (word * 2 ^ s % 2 ^ 64) p u)
-    ∙ ap (λ n. bit_at n p) (shr_split (word * 2 ^ s) 64)
-    ∙ ap (λ n. bit_at n p) (let e : word * 2 ^ s ≡ word * 2 ^ s + 0 = omega arith in e)
-    ∙ bit_at_cat_high word s 0 p (pow_pos s) l)
-
-down : (word k p : ℕ) → has_bit (word / 2 ^ k) p ≡ has_bit word (k + p)
-down word k p = ap (λ x. eqb (x % 2) 1) (shr-shr word k p)
-
-down_past : (word k p : ℕ) → word < 2 ^ 64 → 64 ≤ k + p → has_bit (word / 2 ^ k) p ≡ false
-down_past word k p u l = down word k p ∙ ap (λ x. eqb x 1) (bit_at_above word 64 (k + p) u l)
 
 -- a word that is written
 cell_here : (words : List ℕ) (k v stride line row : ℕ) → row / 64 * stride + line ≡ k → k < length words → cell (set words k v) stride line row ≡ has_bit v (row % 64)

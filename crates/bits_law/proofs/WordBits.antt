@@ -4,8 +4,8 @@ use Rattle.std.specs.Prelude.{bit_and, bit_or}
 use Rattle.std.specs.Int.{bit_at, bit_not, w64, trailing_zeros}
 use Rattle.std.proofs.lemmas.Bool.{cases_lt, false≢true}
 use Rattle.std.proofs.lemmas.Bool.Decides.{nat_tests}
-use Rattle.std.proofs.lemmas.Nat.{and_le_l, shr-shr}
-use Rattle.std.proofs.lemmas.Nat.Bits.{bit_at_and, bit_at_or, bit_at_not, bit_at_ones, bit_at-lt, bit_at-zero, bit_at-suc, bit_at_lowest, bit_at-trailing_zeros, bit_at_set_same, bit_at_set_other, bit_at_clear_same, bit_at_clear_other}
+use Rattle.std.proofs.lemmas.Nat.{and_le_l, shr-shr, shr_split, pow_pos}
+use Rattle.std.proofs.lemmas.Nat.Bits.{bit_at_and, bit_at_or, bit_at_not, bit_at_ones, bit_at-lt, bit_at-zero, bit_at-suc, bit_at_lowest, bit_at-trailing_zeros, bit_at_set_same, bit_at_set_other, bit_at_clear_same, bit_at_clear_other, bit_at_cat_low, bit_at_cat_high, bit_at_above}
 use mir.Val.{bool_byte}
 use Rattle.bits_law.specs.Bitwise.{bits_below}
 use Rattle.bits_law.specs.Numbers.{has_bit}
@@ -127,3 +127,30 @@ bool_small false = omega arith
 pub bool_one : (b : Bool) → eqb (bool_byte b) 1 ≡ b
 bool_one true = refl
 bool_one false = refl
+
+-- the bits of a word that is shifted up, and of one that is shifted down
+pub up_low : (word s p : ℕ) → p < s → s < 64 → has_bit (word * 2 ^ s % 2 ^ 64) p ≡ false
+up_low word s p l u =
+    ap (λ x. eqb x 1)
+    (sym (bit_at_cat_low (word * 2 ^ s / 2 ^ 64) 64 (word * 2 ^ s % 2 ^ 64) p (omega arith))
+    ∙ ap (λ n. bit_at n p) (shr_split (word * 2 ^ s) 64)
+    ∙ ap (λ n. bit_at n p) (let e : word * 2 ^ s ≡ word * 2 ^ s + 0 = omega arith in e)
+    ∙ bit_at_cat_low word s 0 p l ∙ bit_at-zero p)
+
+pub up_high : (word s p : ℕ) → s ≤ p → p < 64 → has_bit (word * 2 ^ s % 2 ^ 64) p ≡ has_bit word (p - s)
+up_high word s p l u =
+    ap (λ x. eqb x 1)
+    (sym (bit_at_cat_low (word * 2 ^ s / 2 ^ 64) 64 (word * 2 ^ s % 2 ^ 64) p u)
+    ∙ ap (λ n. bit_at n p) (shr_split (word * 2 ^ s) 64)
+    ∙ ap (λ n. bit_at n p) (let e : word * 2 ^ s ≡ word * 2 ^ s + 0 = omega arith in e)
+    ∙ bit_at_cat_high word s 0 p (pow_pos s) l)
+
+pub down : (word k p : ℕ) → has_bit (word / 2 ^ k) p ≡ has_bit word (k + p)
+down word k p = ap (λ x. eqb (x % 2) 1) (shr-shr word k p)
+
+pub down_past : (word k p : ℕ) → word < 2 ^ 64 → 64 ≤ k + p → has_bit (word / 2 ^ k) p ≡ false
+down_past word k p u l = down word k p ∙ ap (λ x. eqb x 1) (bit_at_above word 64 (k + p) u l)
+
+-- the low half of a longer number
+pub bit-low : (n p : ℕ) → p < 64 → has_bit (n % 2 ^ 64) p ≡ has_bit n p
+bit-low n p l = ap (λ x. eqb x 1) (sym (bit_at_cat_low (n / 2 ^ 64) 64 (n % 2 ^ 64) p l) ∙ ap (λ m. bit_at m p) (shr_split n 64))

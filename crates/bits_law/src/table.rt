@@ -175,7 +175,8 @@ impl<B: Bits> Table<B> {
     /// A column, as a bitmap.
     pub fn column(&self, at: usize) -> Result<B, AllocError>
         requires { at < length self.now.columns }
-        ensures { IfOk result (λ b. B.bits b ≡ get_or self.now.columns at []) }
+        ensures value { IfOk result (λ b. B.bits b ≡ get_or self.now.columns at []) }
+        ensures rows { IfOk result (λ b. length (B.bits b) ≡ length self.now.present) }
     {
         let stride = self.width + 1;
         line(self.alloc(), &self.words, stride, self.rows, at + 1)
