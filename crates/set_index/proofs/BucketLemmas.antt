@@ -11,17 +11,6 @@ use Rattle.set_index.specs.Buckets.{takes, bucket_bit, Holds}
 pub within : (j : ℕ) (b : Bool) → j < 64 → (ltb j 64 && b) ≡ b
 within j b l = let yes_less : ltb j 64 ≡ true = grind (arith, nat_tests) in ap (λ x. x && b) yes_less
 
-pub first_part : (key part j : ℕ) → part ≡ 0 → j < 64 → has_bit key (63 - j) ≡ (ltb (64 * part + j) 64 && bucket_bit (64 * part + j) key)
-first_part key part j e l =
-    let at : j ≡ 64 * part + j = omega arith in
-    let less : ltb (64 * part + j) 64 ≡ true = grind (arith, nat_tests) in
-    ap (λ i. has_bit key (63 - i)) at ∙ ap (λ b. b && bucket_bit (64 * part + j) key) (sym less)
-
-pub other_part : (key part j : ℕ) → 0 < part → has_bit 0 (63 - j) ≡ (ltb (64 * part + j) 64 && bucket_bit (64 * part + j) key)
-other_part key part j l =
-    let more : ltb (64 * part + j) 64 ≡ false = grind (arith, nat_tests) in
-    bit-none (63 - j) ∙ ap (λ b. b && bucket_bit (64 * part + j) key) (sym more)
-
 pub taken_ok : {B E : Type 0} (bits : B → List Bool) (table : Contents) (bucket : ℕ) (result : Result B E) → bucket < 64 → IfOk result (λ b. bits b ≡ get_or table.columns (63 - bucket) []) → IfOk result (λ b. (keys : List (Option ℕ)) → Holds table keys → bits b ≡ answers (takes bucket) keys)
 taken_ok bits table bucket (Ok b) l e = λ keys h.
     let back : 63 - (63 - bucket) ≡ bucket = omega arith in

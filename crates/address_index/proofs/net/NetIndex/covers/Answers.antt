@@ -7,7 +7,7 @@ use Rattle.address_index.proofs.net.NetIndex.covers.Goals as goal
 
 pub loop-at-init : goal.loop-at-init
 loop-at-init g c =
-    let all = c.in_ok-agree.ensures ∙ c.present.ensures in
+    let all = c.in_ok-agree.ensures in
     let even = ap length all ∙ c.args.self.now.even in
     record {
       agree_even = even;
