@@ -1,7 +1,8 @@
 use Rattle.std.proofs.Common.{◌++◌, ap, ◌∙◌}
-use Rattle.word_bitmap.specs.Words.{bits_below, spelled, words_from}
+use Rattle.bits_law.specs.Bitwise.{bits_below}
+use Rattle.word_bitmap.specs.Words.{spelled, words_from}
 use Rattle.word_bitmap.proofs.WordLemmas.{low_below}
-use Rattle.word_bitmap.proofs.bitmap.WordBitmap.push_word.Goals as goal
+use Rattle.word_bitmap.proofs.bitmap.WordBitmapBits.push_word.Goals as goal
 
 pub returns-clause-ok : goal.returns-clause-ok
 returns-clause-ok c =
