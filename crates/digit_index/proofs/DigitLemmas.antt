@@ -1,5 +1,5 @@
 -- Digits in mixed bases, and what is asked of them.
-use Rattle.std.proofs.Common.{◌≡◌, ℕ, zero, suc, ◌+◌, ◌-◌, ◌*◌, ◌/◌, ◌%◌, ◌<◌, ◌≤◌, Bool, true, false, cond, eqb, ltb, leb, not, ◌&&◌, ◌||◌, List, [], ◌∷◌, ◌++◌, length, get_or, map, take, drop, Option, Result, Ok, Err, IfOk, refl, ap, sym, ◌∙◌, subst, inl, inr, arith}
+use Rattle.std.proofs.Common.{◌≡◌, ℕ, zero, suc, ◌+◌, ◌-◌, ◌*◌, ◌/◌, ◌%◌, ◌^◌, ◌<◌, ◌≤◌, Bool, true, false, cond, eqb, ltb, leb, not, ◌&&◌, ◌||◌, List, [], ◌∷◌, ◌++◌, length, get_or, map, take, drop, Option, Result, Ok, Err, IfOk, refl, ap, sym, ◌∙◌, subst, inl, inr, arith}
 use Rattle.std.proofs.Math.Nat.{div-one, mod-one, mod-eq_of_lt, mod-lt, div-div-eq-div-mul, mul_assoc, mul_comm, mul-le-mul_right}
 use Rattle.std.proofs.Math.Arith.{mod-mul}
 use Rattle.std.proofs.lemmas.Bool.Decides.{nat_tests}
@@ -7,11 +7,15 @@ use Rattle.std.proofs.lemmas.Bool.{cases_lt}
 use Rattle.std.proofs.lemmas.List.{get_or-map, get_or-take, get_or-drop, take_all}
 use Rattle.bits_law.specs.Bitwise.{bitwise, and_not}
 use Rattle.bits_law.specs.Keys.{answers}
-use Rattle.bits_law.specs.Numbers.{holds}
+use Rattle.std.specs.Prelude.{bit_and, bit_or}
+use Rattle.std.specs.Int.{bit_not, w64}
+use Rattle.std.proofs.lemmas.Nat.Bits.{bit_at_ones, bit_at_ones_above, ones_shr}
+use Rattle.bits_law.specs.Numbers.{has_bit, holds}
 use Rattle.bits_law.specs.Contents.{Contents}
 use Rattle.bits_law.specs.declared.slices.Order.{Order}
 use Rattle.bits_law.proofs.AnswerLemmas.{answers-same, answers-and, answers-or, answers-and_not}
 use Rattle.bits_law.proofs.BitwiseLemmas.{length-bitwise}
+use Rattle.bits_law.proofs.WordBits.{bit-none, bit-and, bit-or, bit-not}
 use Rattle.digit_index.specs.declared.coding.Coding.{Coding}
 use Rattle.digit_index.specs.declared.coding.Coding.TheVariants.{Equality, Range}
 use Rattle.digit_index.specs.Digits.{AreBases, product, columns_of, is_coded, width, digit_bit, Holds, HoldsDigit}
@@ -361,3 +365,85 @@ above n key = grind (arith, nat_tests)
 
 pub at_least : (n key : ℕ) → not (ltb n key) ≡ leb key n
 at_least n key = grind (arith, nat_tests)
+
+-- the columns of a digit in a word
+pub ones_from_bit : (at j : ℕ) → at < 64 → j < 64 → has_bit ((2 ^ 64 - 1) / 2 ^ at) (63 - j) ≡ leb at j
+ones_from_bit at j l u = elim (cases_lt j at) [
+  | inl less ↦
+      let past : leb at j ≡ false = grind (arith, nat_tests) in
+      ap (λ n. has_bit n (63 - j)) (ones_shr 64 at (omega arith)) ∙ ap (λ x. eqb x 1) (bit_at_ones_above (64 - at) (63 - j) (omega arith)) ∙ sym past
+  | inr more ↦
+      let reached : leb at j ≡ true = grind (arith, nat_tests) in
+      ap (λ n. has_bit n (63 - j)) (ones_shr 64 at (omega arith)) ∙ ap (λ x. eqb x 1) (bit_at_ones (64 - at) (63 - j) (omega arith)) ∙ sym reached
+]
+
+pub ones_from_none : (at j : ℕ) → 64 ≤ at → j < 64 → has_bit 0 (63 - j) ≡ leb at j
+ones_from_none at j l u =
+    let past : leb at j ≡ false = grind (arith, nat_tests) in
+    bit-none (63 - j) ∙ sym past
+
+-- which column ends a digit's run of ones
+abbrev pub cond_of : Coding → ℕ → ℕ → ℕ
+cond_of Equality one all = one
+cond_of Range one all = all
+
+pub between_columns : (coding : Coding) (start from count digit first end j a b : ℕ) → (coding ≡ Equality → digit < count) → first ≡ from + digit → end ≡ (cond_of coding (first + 1) (from + count)) → b < 2 ^ 64 → j < 64 → has_bit a (63 - j) ≡ leb (first - start) j → has_bit b (63 - j) ≡ leb (end - start) j → has_bit (bit_and a (bit_not w64 b)) (63 - j) ≡ (leb from (start + j) && ltb (start + j) (from + count) && is_coded coding (start + j - from) digit)
+between_columns coding start from count digit first end j a b w f e u l p q =
+    bit-and a (bit_not w64 b) (63 - j)
+    ∙ ap (λ x. x && has_bit (bit_not w64 b) (63 - j)) p
+    ∙ ap (λ x. leb (first - start) j && x) (bit-not b (63 - j) u (omega arith) ∙ ap not q)
+    ∙ ap (λ n. leb (first - start) j && not (leb (n - start) j)) e
+    ∙ ap (λ n. leb (n - start) j && not (leb (cond_of coding (n + 1) (from + count) - start) j)) f
+    ∙ by_coding coding w
+  where
+    by_coding : (coding : Coding) → (coding ≡ Equality → digit < count) → (leb (from + digit - start) j && not (leb (cond_of coding (from + digit + 1) (from + count) - start) j)) ≡ (leb from (start + j) && ltb (start + j) (from + count) && is_coded coding (start + j - from) digit)
+    by_coding Equality w = let h : digit < count = w refl in grind (arith, nat_tests)
+    by_coding Range w = grind (arith, nat_tests)
+
+pub digit_bit-past : (coding : Coding) (bases : List ℕ) (j key : ℕ) → width coding bases ≤ j → digit_bit coding bases j key ≡ false
+digit_bit-past coding [] j key l = refl
+digit_bit-past coding (b ∷ bs) j key l =
+    there (grind (arith, nat_tests)) ∙ digit_bit-past coding bs (j - columns_of coding b) (key / b) (omega arith)
+  where
+    there : ltb j (columns_of coding b) ≡ false → digit_bit coding (b ∷ bs) j key ≡ digit_bit coding bs (j - columns_of coding b) (key / b)
+    there later = rw later refl
+
+-- the columns of one digit more
+pub word_more : (coding : Coding) (bases : List ℕ) (k key from rest word part column next : ℕ) → k < length bases → next ≡ suc k → from ≡ width coding (take k bases) → rest ≡ key / product (take k bases) → has_bit word (63 - part) ≡ (ltb column from && digit_bit coding bases column key) → (more : ℕ) → has_bit more (63 - part) ≡ (leb from column && ltb column (from + columns_of coding (get_or bases k 0)) && is_coded coding (column - from) (rest % get_or bases k 0)) → has_bit (bit_or word more) (63 - part) ≡ (ltb column (from + columns_of coding (get_or bases k 0)) && digit_bit coding bases column key)
+word_more coding bases k key from rest word part column next l n f r w more m =
+    bit-or word more (63 - part) ∙ ap (λ x. x || has_bit more (63 - part)) w ∙ ap (λ x. (ltb column from && digit_bit coding bases column key) || x) m
+    ∙ elim (cases_lt column from) [
+      | inl less ↦
+          let yes_before : ltb column from ≡ true = grind (arith, nat_tests) in
+          let not_from : leb from column ≡ false = grind (arith, nat_tests) in
+          let yes_after : ltb column (from + columns_of coding (get_or bases k 0)) ≡ true = grind (arith, nat_tests) in
+          rw (yes_before, not_from, yes_after) (or_none (digit_bit coding bases column key))
+      | inr past ↦
+          let not_before : ltb column from ≡ false = grind (arith, nat_tests) in
+          let yes_from : leb from column ≡ true = grind (arith, nat_tests) in
+          rw (not_before, yes_from) (elim (cases_lt column (from + columns_of coding (get_or bases k 0))) [
+            | inl inside ↦
+                let in_digit : ltb column (from + columns_of coding (get_or bases k 0)) ≡ true = grind (arith, nat_tests) in
+                let back : width coding (take k bases) + (column - from) ≡ column = omega (arith, f) in
+                rw in_digit (ap (λ d. is_coded coding (column - from) (d % get_or bases k 0)) r
+                ∙ sym (bit_of coding bases k (column - from) key l (omega arith))
+                ∙ ap (λ i. digit_bit coding bases i key) back)
+            | inr outside ↦
+                let not_in : ltb column (from + columns_of coding (get_or bases k 0)) ≡ false = grind (arith, nat_tests) in
+                rw not_in refl
+          ])
+    ]
+  where
+    or_none : (x : Bool) → (x || false) ≡ x
+    or_none true = refl
+    or_none false = refl
+
+pub word_all : (coding : Coding) (bases : List ℕ) (k key from word part column : ℕ) → length bases ≤ k → from ≡ width coding (take k bases) → has_bit word (63 - part) ≡ (ltb column from && digit_bit coding bases column key) → has_bit word (63 - part) ≡ digit_bit coding bases column key
+word_all coding bases k key from word part column l f w =
+    w ∙ elim (cases_lt column from) [
+      | inl less ↦ let before : ltb column from ≡ true = grind (arith, nat_tests) in ap (λ x. x && digit_bit coding bases column key) before
+      | inr past ↦
+          let all : width coding bases ≤ column = omega (arith, f ∙ ap (width coding) (take_all k bases l)) in
+          let after : ltb column from ≡ false = grind (arith, nat_tests) in
+          ap (λ x. x && digit_bit coding bases column key) after ∙ sym (digit_bit-past coding bases column key all)
+    ]
