@@ -10,7 +10,7 @@ use Rattle.bits_law.specs.Numbers.{number_at, has_bit, IsAnswer}
 use Rattle.bits_law.specs.Contents.{Contents}
 use Rattle.bits_law.proofs.AnswerLemmas.{asked_slices, answers-same}
 use Rattle.bits_law.proofs.WordBits.{bit-low, down}
-use Rattle.address_index.specs.Addresses.{address_bit, IsAddress, within, Holds}
+use Rattle.address_index.specs.Addresses.{address_bit, within, Holds}
 
 -- a column of the 128
 pub in_address : (j : ℕ) (b : Bool) → j < 128 → (ltb j 128 && b) ≡ b

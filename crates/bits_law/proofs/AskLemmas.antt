@@ -1,19 +1,17 @@
 -- What is asked of lines, in words.
-use Rattle.std.proofs.Common.{◌≡◌, ℕ, zero, suc, ◌+◌, ◌-◌, ◌*◌, ◌/◌, ◌%◌, ◌^◌, ◌<◌, ◌≤◌, min, Bool, true, false, cond, eqb, ltb, not, ◌&&◌, ◌||◌, List, [], ◌∷◌, ◌++◌, length, get_or, take, drop, map, replicate, refl, ap, sym, ◌∙◌, subst, inl, inr, arith}
-use Rattle.std.specs.List.{range_with_len}
+use Rattle.std.proofs.Common.{◌≡◌, ℕ, zero, suc, ◌+◌, ◌-◌, ◌*◌, ◌/◌, ◌%◌, ◌^◌, ◌<◌, ◌≤◌, min, Bool, true, false, cond, eqb, ltb, not, ◌&&◌, ◌||◌, List, [], ◌++◌, length, get_or, take, drop, refl, ap, sym, ◌∙◌, inl, inr, arith}
 use Rattle.std.proofs.lemmas.Bool.{cases_lt}
 use Rattle.std.proofs.Math.Nat.{div-one, mul-le-mul_right}
 use Rattle.std.proofs.lemmas.List.{ext_get_or, length-append, get_or_append_left, get_or-append_right, get_or-take, get_or-drop, length-take, length-drop, take_all}
 use Rattle.std.proofs.lemmas.List.FromFn.{length-map-range_with_len, get_or-map-range_with_len}
 use Rattle.bits_law.specs.Bitwise.{bitwise, bits_below}
-use Rattle.bits_law.specs.Contents.{Contents}
 use Rattle.bits_law.specs.Numbers.{has_bit, then_bit, number_at, holds, IsAnswer}
 use Rattle.bits_law.specs.declared.slices.Order.{Order}
 use Rattle.bits_law.specs.Blocks.{blocks, cell, line_of, held, asked_rows, IsLaid, number_in}
 use Rattle.bits_law.proofs.WordBits.{bit-none, length_below, get_below}
 use Rattle.bits_law.proofs.BitwiseLemmas.{length-bitwise, get_or-bitwise}
 use Rattle.bits_law.proofs.NumberLemmas.{number_at-more, below_more, equal_more, half_key}
-use Rattle.bits_law.proofs.BlockLemmas.{length_line, get_line, held_wide, held_column, held_present}
+use Rattle.bits_law.proofs.BlockLemmas.{length_line, get_line, held_wide, held_column}
 
 -- one bit of the halves, after one more word
 pub below_step : (a bit s : Bool) (p k half : ℕ) → bit ≡ eqb (k % 2) 1 → k / 2 ≡ half → cond bit ((a && ltb p half) || ((a && eqb p half) && not s)) (a && ltb p half) ≡ (a && ltb (then_bit p s) k)
@@ -71,17 +69,18 @@ settled words first count key i j (suc d) a l e =
     let p : ℕ = number_in words first (j + d) i in
     let h : ℕ = key / 2 ^ (count - (j + d)) in
     let s : Bool = has_bit (get_or words (first + (j + d)) 0) i in
-    let bit : Bool = eqb (k % 2) 1 in
-    (ap (λ n. a && ltb (number_in words first n i) (key / 2 ^ (count - n))) more
-    ∙ ap (λ n. a && ltb (then_bit p s) (key / 2 ^ (count - n))) (sym next)
-    ∙ sym (below_step a bit s p k h refl half)
-    ∙ ap (λ x. cond bit ((a && ltb p h) || (x && not s)) (a && ltb p h)) before.1
-    ∙ same bit (a && ltb p h)
-    ∙ before.0,
-    ap (λ n. a && eqb (number_in words first n i) (key / 2 ^ (count - n))) more
-    ∙ ap (λ n. a && eqb (then_bit p s) (key / 2 ^ (count - n))) (sym next)
-    ∙ sym (equal_step a bit s p k h refl half)
-    ∙ ap (λ x. x && cond bit s (not s)) before.1)
+    let bit : Bool = eqb (k % 2) 1 in (
+      ap (λ n. a && ltb (number_in words first n i) (key / 2 ^ (count - n))) more
+          ∙ ap (λ n. a && ltb (then_bit p s) (key / 2 ^ (count - n))) (sym next)
+          ∙ sym (below_step a bit s p k h refl half)
+          ∙ ap (λ x. cond bit ((a && ltb p h) || (x && not s)) (a && ltb p h)) before.1
+          ∙ same bit (a && ltb p h)
+          ∙ before.0,
+      ap (λ n. a && eqb (number_in words first n i) (key / 2 ^ (count - n))) more
+          ∙ ap (λ n. a && eqb (then_bit p s) (key / 2 ^ (count - n))) (sym next)
+          ∙ sym (equal_step a bit s p k h refl half)
+          ∙ ap (λ x. x && cond bit s (not s)) before.1,
+    )
   where
     same : (bit x : Bool) → cond bit (x || false) x ≡ x
     same true true = refl
@@ -90,9 +89,10 @@ settled words first count key i j (suc d) a l e =
 
 -- the halves of the whole key
 pub halves_all : (words : List ℕ) (first count key among below equal j : ℕ) → j ≡ count → AreHalves words first count key among below equal j → ((i : ℕ) → i < 64 → has_bit below i ≡ (has_bit among i && ltb (number_in words first count i) key)) × ((i : ℕ) → i < 64 → has_bit equal i ≡ (has_bit among i && eqb (number_in words first count i) key))
-halves_all words first count key among below equal j e h =
-    (λ i u. h.below i u ∙ ap (λ n. has_bit among i && ltb (number_in words first n i) (key / 2 ^ (count - n))) e ∙ ap (λ k. has_bit among i && ltb (number_in words first count i) k) whole,
-    λ i u. h.equal i u ∙ ap (λ n. has_bit among i && eqb (number_in words first n i) (key / 2 ^ (count - n))) e ∙ ap (λ k. has_bit among i && eqb (number_in words first count i) k) whole)
+halves_all words first count key among below equal j e h = (
+  λ i u. h.below i u ∙ ap (λ n. has_bit among i && ltb (number_in words first n i) (key / 2 ^ (count - n))) e ∙ ap (λ k. has_bit among i && ltb (number_in words first count i) k) whole,
+  λ i u. h.equal i u ∙ ap (λ n. has_bit among i && eqb (number_in words first n i) (key / 2 ^ (count - n))) e ∙ ap (λ k. has_bit among i && eqb (number_in words first count i) k) whole,
+)
   where
     whole : key / 2 ^ (count - count) ≡ key
     whole = let none : count - count ≡ 0 = omega arith in ap (λ n. key / 2 ^ n) none ∙ div-one key

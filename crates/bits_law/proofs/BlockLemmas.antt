@@ -1,17 +1,15 @@
 -- Rows in blocks, as lists of bits.
-use Rattle.std.proofs.Common.{◌≡◌, ◌≢◌, ℕ, zero, suc, ◌+◌, ◌-◌, ◌*◌, ◌/◌, ◌%◌, ◌^◌, ◌<◌, ◌≤◌, Bool, true, false, not, ◌&&◌, ◌||◌, List, [], ◌∷◌, ◌++◌, length, get_or, take, drop, map, replicate, refl, ap, sym, ◌∙◌, subst, inl, inr, arith}
-use Rattle.std.specs.List.{range_with_len}
+use Rattle.std.proofs.Common.{◌≡◌, ◌≢◌, ℕ, zero, suc, ◌+◌, ◌-◌, ◌*◌, ◌/◌, ◌%◌, ◌^◌, ◌<◌, ◌≤◌, Bool, true, false, ◌||◌, List, [], ◌∷◌, ◌++◌, length, get_or, replicate, refl, ap, sym, ◌∙◌, inl, inr, arith}
 use Rattle.std.proofs.lemmas.Bool.{cases_eq, cases_lt}
-use Rattle.std.proofs.lemmas.Nat.{mul-add-lt, div-mul-add, mod-mul-add}
+use Rattle.std.proofs.lemmas.Nat.{mul-add-lt}
 use Rattle.std.proofs.Math.Nat.{mul-le-mul_right}
-use Rattle.std.proofs.lemmas.List.{ext_get_or, length-append, length-replicate, get_or-replicate, get_or_append_left, get_or-append_right, get_or_past, get_or-take, get_or-drop, length-take, length-drop, take_all}
+use Rattle.std.proofs.lemmas.List.{ext_get_or, length-append, length-replicate, get_or-replicate, get_or_append_left, get_or-append_right}
 use Rattle.std.proofs.lemmas.List.FromFn.{length-map-range_with_len, get_or-map-range_with_len, map-range_with_len_more}
 use Rattle.bits_law.specs.Keys.{padded, placed}
-use Rattle.bits_law.specs.Contents.{Contents, IsPlaced, IsPadded, IsJoined, IsEven}
-use Rattle.bits_law.specs.Numbers.{has_bit, then_bit, number_at}
-use Rattle.bits_law.specs.Blocks.{blocks, cell, line_of, held, IsLaid, IsMarked, line_bit, number_in}
+use Rattle.bits_law.specs.Contents.{IsPlaced, IsPadded, IsEven}
+use Rattle.bits_law.specs.Numbers.{has_bit}
+use Rattle.bits_law.specs.Blocks.{blocks, cell, line_of, held, IsLaid, IsMarked, line_bit}
 use Rattle.bits_law.proofs.WordBits.{bit-none}
-use Rattle.bits_law.proofs.NumberLemmas.{number_at-more}
 
 pub length_line : (words : List ℕ) (stride rows line : ℕ) → length (line_of words stride rows line) ≡ rows
 length_line words stride rows line = length-map-range_with_len (cell words stride line) 0 rows

@@ -3,7 +3,6 @@ pub mod NumberLemmas
 pub mod RefusalLemmas
 pub mod AnswerLemmas
 pub mod TableLemmas
-pub mod PartLemmas
 pub mod WordBits
 pub mod MarkLemmas
 pub mod BlockLemmas

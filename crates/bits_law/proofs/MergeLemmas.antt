@@ -1,15 +1,15 @@
 -- A word is added to a line at any row, and the lines of other blocks word by word.
-use Rattle.std.proofs.Common.{◌≡◌, ◌≢◌, ℕ, zero, suc, ◌+◌, ◌-◌, ◌*◌, ◌/◌, ◌%◌, ◌^◌, ◌<◌, ◌≤◌, Bool, true, false, eqb, ◌||◌, List, [], ◌∷◌, ◌++◌, length, get_or, set, replicate, refl, ap, sym, ◌∙◌, subst, inl, inr, arith}
+use Rattle.std.proofs.Common.{◌≡◌, ◌≢◌, ℕ, ◌+◌, ◌-◌, ◌*◌, ◌/◌, ◌%◌, ◌^◌, ◌<◌, ◌≤◌, Bool, true, false, ◌||◌, List, [], ◌++◌, length, get_or, set, replicate, refl, ap, sym, ◌∙◌, subst, inl, inr, arith}
 use Rattle.std.specs.Prelude.{bit_or}
 use Rattle.std.proofs.lemmas.Bool.{cases_eq, cases_lt}
 use Rattle.std.proofs.lemmas.Nat.{same_from_place, mul-add-lt, div-add-mod', mod_below, div_below}
 use Rattle.std.proofs.Math.Nat.{mul-le-mul_right}
 use Rattle.std.proofs.lemmas.List.{length-set, get_or-set_same, get_or-set_other, get_or_past}
-use Rattle.bits_law.specs.Contents.{Contents, IsJoined}
+use Rattle.bits_law.specs.Contents.{IsJoined}
 use Rattle.bits_law.specs.Numbers.{has_bit}
 use Rattle.bits_law.specs.Blocks.{blocks, cell, line_of, held, IsLaid, IsMerged, IsExtended}
 use Rattle.bits_law.proofs.WordBits.{bit-none, bit-or, up_low, up_high, down, down_past}
-use Rattle.bits_law.proofs.BlockLemmas.{cell_grown, held_wide, held_column, line_joined, room_for}
+use Rattle.bits_law.proofs.BlockLemmas.{cell_grown, held_wide, held_column, line_joined}
 
 or_false : (x : Bool) → x ≡ (x || false)
 or_false true = refl

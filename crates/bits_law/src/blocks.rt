@@ -45,13 +45,7 @@ fn mark_part(words: &mut [u64], first: usize, count: usize, at: u64, word: u64)
 }
 
 /// Sets bit `at` in those of `width` words from `first` on whose column's bit a key sets.
-pub(crate) fn mark<R: RowBits>(
-    words: &mut [u64],
-    first: usize,
-    width: usize,
-    at: u64,
-    key: &R,
-)
+pub(crate) fn mark<R: RowBits>(words: &mut [u64], first: usize, width: usize, at: u64, key: &R)
     requires inside { first + width ≤ length words.old }
     requires at { at < 64 }
     ensures { IsMarked words.old words.new first width at (R.bit key.now) }
@@ -68,13 +62,7 @@ pub(crate) fn mark<R: RowBits>(
 
 /// Sets bit `at` in the first word of a block, and in those of the `width` words behind it whose column's bit a key
 /// sets.
-pub(crate) fn mark_row<R: RowBits>(
-    words: &mut [u64],
-    first: usize,
-    width: usize,
-    at: u64,
-    key: &R,
-)
+pub(crate) fn mark_row<R: RowBits>(words: &mut [u64], first: usize, width: usize, at: u64, key: &R)
     requires inside { first + (width + 1) ≤ length words.old }
     requires at { at < 64 }
     ensures { IsMarked words.old words.new first (width + 1) at (line_bit (R.bit key.now)) }

@@ -488,7 +488,7 @@ fn tabled<B: Bits>(alloc: Global, from: u64, rows: u64) -> Result<SliceIndex<B>,
     for at in 0..rows {
         if let Some(key) = key_at(from + at) {
             let row = index.rows().max(at);
-            index = index.add(row, key.min(15))?;
+            index.put(row, key.min(15))?;
         }
     }
     let rows = index.rows().max(rows);

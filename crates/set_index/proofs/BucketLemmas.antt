@@ -1,11 +1,9 @@
 -- What a bucket answers.
-use Rattle.std.proofs.Common.{◌≡◌, ℕ, ◌+◌, ◌-◌, ◌*◌, ◌<◌, Bool, true, false, ltb, ◌&&◌, List, [], get_or, Option, Result, Ok, Err, IfOk, refl, ap, sym, ◌∙◌, arith}
+use Rattle.std.proofs.Common.{◌≡◌, ℕ, ◌-◌, ◌<◌, Bool, true, ltb, ◌&&◌, List, [], get_or, Option, Result, Ok, Err, IfOk, ap, ◌∙◌, arith}
 use Rattle.std.proofs.lemmas.Bool.Decides.{nat_tests}
 use Rattle.bits_law.specs.Keys.{answers}
-use Rattle.bits_law.specs.Numbers.{has_bit}
 use Rattle.bits_law.specs.Contents.{Contents}
-use Rattle.bits_law.proofs.WordBits.{bit-none}
-use Rattle.set_index.specs.Buckets.{takes, bucket_bit, Holds}
+use Rattle.set_index.specs.Buckets.{takes, Holds}
 
 -- a column of the 64
 pub within : (j : ℕ) (b : Bool) → j < 64 → (ltb j 64 && b) ≡ b

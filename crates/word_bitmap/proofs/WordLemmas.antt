@@ -5,7 +5,7 @@ use Rattle.std.specs.Int.{bit_at}
 use Rattle.std.proofs.lemmas.Bool.{cases_lt}
 use Rattle.std.proofs.lemmas.Nat.{shr-shr, shr_split, shl_whole, div-mul-add, mod-mul-add, pow-add, shr_below, mod-pow-add}
 use Rattle.std.proofs.Math.Nat.{mod-eq_of_lt, div-eq_of_lt, mul-le-mul_right, pow-le-pow_right, mod-one}
-use Rattle.std.proofs.lemmas.Nat.Bits.{bit_at_cat_low, bit_at_and, bit_at_or, bit_at_xor, bit_at_ones, bit_at-lt, bit_at-zero, bit_at-suc, bit_at_lowest}
+use Rattle.std.proofs.lemmas.Nat.Bits.{bit_at_cat_low, bit_at_and, bit_at_or, bit_at_xor, bit_at_ones, bit_at-lt, bit_at-zero}
 use Rattle.std.proofs.lemmas.List.{append_assoc, append-nil, length-append, length-replicate, ext_get_or, get_or_append_left, get_or-append_right, get_or-replicate, replicate-append-replicate}
 use Rattle.std.specs.Int.RustNames.{count_ones}
 use Rattle.std.specs.List.{count_by, slice_get}
@@ -14,7 +14,7 @@ use Rattle.std.proofs.lemmas.Simd.{ones-mask_l}
 use Rattle.std.specs.Simd.Lanes.{mask_l}
 use Rattle.std.proofs.lemmas.Option.{slice_get-get_or}
 use Rattle.bits_law.specs.Bitwise.{bitwise, bits_below}
-use Rattle.bits_law.proofs.WordBits.{length_below, get_below, below_none}
+use Rattle.bits_law.proofs.WordBits.{length_below, get_below}
 use Rattle.bits_law.proofs.BitwiseLemmas.{length-bitwise, get_or-bitwise, bitwise-append}
 use Rattle.word_bitmap.specs.Words.{spelled, joins, word_of}
 use Rattle.word_bitmap.specs.declared.combine.Ones.{Ones}

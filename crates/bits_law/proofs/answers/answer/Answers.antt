@@ -1,6 +1,6 @@
-use Rattle.std.proofs.Common.{◌≡◌, ◌+◌, ◌*◌, ◌/◌, ◌%◌, ◌&&◌, ◌||◌, ◌<◌, length, get_or, ap, ◌∙◌, arith}
-use Rattle.bits_law.specs.Numbers.{has_bit, holds}
-use Rattle.bits_law.specs.Blocks.{cell, number_in}
+use Rattle.std.proofs.Common.{◌+◌, ◌*◌, ◌/◌, ◌%◌, arith}
+use Rattle.bits_law.specs.Numbers.{holds}
+use Rattle.bits_law.specs.Blocks.{number_in}
 use Rattle.bits_law.proofs.AskLemmas.{begun_none, begun_more, begun_answer, asked_block}
 use Rattle.bits_law.proofs.answers.answer.Goals as goal
 

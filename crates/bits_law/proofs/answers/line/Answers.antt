@@ -1,7 +1,6 @@
-use Rattle.std.proofs.Common.{◌≡◌, ◌+◌, ◌*◌, ◌<◌, length, get_or, ap, ◌∙◌, arith}
-use Rattle.bits_law.specs.Numbers.{has_bit}
+use Rattle.std.proofs.Common.{arith}
 use Rattle.bits_law.specs.Blocks.{cell}
-use Rattle.bits_law.proofs.AskLemmas.{block_rows, block_inside, begun_none, begun_more, begun_line, cell_in_block}
+use Rattle.bits_law.proofs.AskLemmas.{begun_none, begun_more, begun_line, cell_in_block}
 use Rattle.bits_law.proofs.answers.line.Goals as goal
 
 pub loop-block-init : goal.loop-block-init

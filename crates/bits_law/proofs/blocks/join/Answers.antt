@@ -1,4 +1,4 @@
-use Rattle.std.proofs.Common.{◌≡◌, ℕ, ◌+◌, ◌*◌, ◌/◌, ◌^◌, ◌<◌, ◌≤◌, length, refl, arith}
+use Rattle.std.proofs.Common.{ℕ, ◌*◌, ◌/◌, ◌^◌, ◌<◌, ◌≤◌, length, refl, arith}
 use Rattle.std.proofs.lemmas.Nat.{div_below}
 use Rattle.bits_law.proofs.MergeLemmas.{joining_none, joining_more, joining_all}
 use Rattle.bits_law.proofs.blocks.join.Goals as goal

@@ -1,5 +1,3 @@
-use Rattle.std.proofs.Common.{◌≡◌, ℕ, ◌+◌, ◌*◌, ◌/◌, ◌<◌, ◌≤◌, ◌||◌, length}
-use Rattle.bits_law.specs.Blocks.{cell}
 use Rattle.bits_law.proofs.MergeLemmas.{IsJoining}
 use Rattle.bits_law.proofs.blocks.join.Given as goal
 

@@ -1,4 +1,4 @@
-use Rattle.std.proofs.Common.{◌-◌, ◌≡◌, ℕ, ◌*◌, ◌<◌, ◌≤◌}
+use Rattle.std.proofs.Common.{◌-◌, ◌≡◌, ◌*◌, ◌<◌, ◌≤◌}
 use Rattle.bits_law.specs.Blocks.{IsMarked}
 use Rattle.bits_law.proofs.blocks.mark.Given as goal
 

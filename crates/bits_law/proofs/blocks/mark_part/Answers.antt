@@ -1,4 +1,4 @@
-use Rattle.std.proofs.Common.{◌≡◌, ◌≢◌, ℕ, ◌+◌, ◌-◌, ◌<◌, ◌^◌, length, refl, arith}
+use Rattle.std.proofs.Common.{◌≢◌, ◌+◌, ◌-◌, ◌<◌, refl, arith}
 use Rattle.std.specs.Int.{w64, trailing_zeros}
 use Rattle.bits_law.proofs.WordBits.{lowered}
 use Rattle.bits_law.proofs.MarkLemmas.{marked_bit, mark_none, mark_more, mark_same, part_begins, part_here, part_other, part_within, part_ends}

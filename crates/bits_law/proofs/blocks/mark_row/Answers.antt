@@ -1,4 +1,4 @@
-use Rattle.std.proofs.Common.{◌≡◌, ◌+◌, ℕ, suc, zero, true, false, ◌<◌, Bool, set, get_or, ap, refl, subst, arith}
+use Rattle.std.proofs.Common.{◌≡◌, ◌+◌, ℕ, suc, zero, true, false, ◌<◌, Bool, ap, refl, subst, arith}
 use Rattle.bits_law.specs.Blocks.{IsMarked, line_bit}
 use Rattle.bits_law.proofs.MarkLemmas.{mark_none, mark_more, mark_same, mark_join}
 use Rattle.bits_law.proofs.blocks.mark_row.Goals as goal

@@ -1,4 +1,4 @@
-use Rattle.std.proofs.Common.{◌≡◌, ◌≢◌, ◌%◌, ◌<◌, ◌≤◌, ◌+◌, length, arith}
+use Rattle.std.proofs.Common.{arith}
 use Rattle.bits_law.proofs.MergeLemmas.{merged_once, merged_twice}
 use Rattle.bits_law.proofs.blocks.merge.Goals as goal
 

@@ -1,6 +1,5 @@
-use Rattle.std.proofs.Common.{◌≡◌, ◌+◌, ◌-◌, ◌*◌, ◌%◌, ◌&&◌, suc, ltb, leb, length, get_or, take, ap, sym, ◌∙◌, subst, arith}
-use Rattle.std.proofs.Math.Nat.{div-one}
-use Rattle.digit_index.specs.Digits.{AreBases, columns_of, is_coded, digit_bit}
+use Rattle.std.proofs.Common.{◌≡◌, ◌+◌, ◌-◌, ◌*◌, ◌%◌, ◌&&◌, suc, ltb, leb, get_or, ap, sym, ◌∙◌, subst, arith}
+use Rattle.digit_index.specs.Digits.{AreBases, is_coded, digit_bit}
 use Rattle.digit_index.proofs.DigitLemmas.{from-most, from_more, rest_more, word_more, word_all}
 use Rattle.digit_index.proofs.coding.digit_word.Goals as goal
 

@@ -1,4 +1,4 @@
-use Rattle.std.proofs.Common.{◌≡◌, ◌<◌, length, take, drop, nat_lt, ap, sym, ◌∙◌, subst, arith}
+use Rattle.std.proofs.Common.{◌≡◌, ◌<◌, length, nat_lt, ap, sym, ◌∙◌, subst, arith}
 use Rattle.bits_law.specs.Keys.{answers}
 use Rattle.bits_law.proofs.BitwiseLemmas.{length-bitwise}
 use Rattle.digit_index.proofs.DigitLemmas.{column_is, any_none, any_more}

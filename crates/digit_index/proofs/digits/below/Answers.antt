@@ -1,4 +1,4 @@
-use Rattle.std.proofs.Common.{◌<◌, ◌-◌, ◌+◌, ◌≤◌, take, drop, refl, ap, arith}
+use Rattle.std.proofs.Common.{◌<◌, ◌-◌, take, drop, refl, ap, arith}
 use Rattle.digit_index.specs.Digits.{columns_of}
 use Rattle.digit_index.proofs.DigitLemmas.{column_is, below_equality, below_none, below_all, below_some}
 use Rattle.digit_index.proofs.digits.below.Goals as goal

@@ -1,4 +1,4 @@
-use Rattle.std.proofs.Common.{◌<◌, ◌+◌, ◌≤◌, take, drop, refl, ap, arith}
+use Rattle.std.proofs.Common.{◌<◌, take, drop, refl, ap, arith}
 use Rattle.digit_index.specs.Digits.{columns_of}
 use Rattle.digit_index.proofs.DigitLemmas.{column_is, equal_column, equal_between, even_joined}
 use Rattle.digit_index.proofs.digits.equal.Goals as goal

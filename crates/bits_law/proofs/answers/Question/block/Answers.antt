@@ -1,5 +1,5 @@
-use Rattle.std.proofs.Common.{◌+◌, sym, ap, ◌∙◌}
-use Rattle.bits_law.specs.Numbers.{has_bit, holds}
+use Rattle.std.proofs.Common.{◌+◌, ◌∙◌}
+use Rattle.bits_law.specs.Numbers.{has_bit}
 use Rattle.bits_law.specs.Blocks.{number_in}
 use Rattle.bits_law.proofs.WordBits.{bit-and}
 use Rattle.bits_law.proofs.AskLemmas.{related_bit}

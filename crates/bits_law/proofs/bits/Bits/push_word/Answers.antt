@@ -12,11 +12,11 @@ loop-preserved g c =
     let one_more : suc m ≡ c.args.n - c.loop.counter = omega arith in
     record {
       whole =
-        ap (λ xs. xs ++ bits_below (rest / 2) m) c.in_ok-push_run.ensures.ok
-        ∙ append_assoc (bits c.loop.self) (eqb (rest % 2) 1 ∷ []) (bits_below (rest / 2) m)
-        ∙ ap (λ xs. bits c.loop.self ++ xs) (sym (below_more rest m))
-        ∙ ap (λ i. bits c.loop.self ++ bits_below rest i) one_more
-        ∙ c.loop.invariant.whole;
+          ap (λ xs. xs ++ bits_below (rest / 2) m) c.in_ok-push_run.ensures.ok
+          ∙ append_assoc (bits c.loop.self) (eqb (rest % 2) 1 ∷ []) (bits_below (rest / 2) m)
+          ∙ ap (λ xs. bits c.loop.self ++ xs) (sym (below_more rest m))
+          ∙ ap (λ i. bits c.loop.self ++ bits_below rest i) one_more
+          ∙ c.loop.invariant.whole;
       long = ap length c.in_ok-push_run.ensures.ok ∙ length-append (bits c.loop.self) (eqb (rest % 2) 1 ∷ []) ∙ omega (arith, c.loop.invariant.long);
     }
 

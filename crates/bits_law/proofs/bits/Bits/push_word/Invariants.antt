@@ -1,4 +1,4 @@
-use Rattle.std.proofs.Common.{◌≡◌, ◌+◌, ◌-◌, ◌≤◌, ◌++◌, length}
+use Rattle.std.proofs.Common.{◌≡◌, ◌+◌, ◌-◌, ◌++◌, length}
 use Rattle.bits_law.specs.Bitwise.{bits_below}
 use Rattle.bits_law.proofs.bits.Bits.push_word.Given as goal
 

@@ -1,4 +1,4 @@
-use Rattle.std.proofs.Common.{◌≡◌, ℕ, ◌+◌, ◌-◌, ◌*◌, ◌/◌, ◌%◌, ◌<◌, ◌≤◌, ◌^◌, List, length, sym, ap, ◌∙◌, refl, subst, arith}
+use Rattle.std.proofs.Common.{◌≡◌, ℕ, ◌+◌, ◌-◌, ◌*◌, ◌≤◌, ◌^◌, List, length, sym, ap, ◌∙◌, subst, arith}
 use Rattle.std.proofs.lemmas.List.{with_items_is}
 use Rattle.std.proofs.Math.Nat.{mul-le-mul_right}
 use Rattle.bits_law.specs.Contents.{Contents, IsJoined}
@@ -64,10 +64,11 @@ invariant_of-table g c =
     let n = blocks (t.rows + o.rows) * (t.width + 1) - length t.words.items in
     let long = grown_long t.words.items grown (t.width + 1) t.rows (t.rows + o.rows) (omega arith) c.in_ok-grow.ensures.ok c.table.invariant.0 in
     let x = rw (c.deref.ensures.value, c.deref_mut.ensures.value) at c.join.ensures in
-    let same = with_items_is c.grow.new.words c.join.new.words (x.long ∙ sym c.grow.new.words.ok.0) in
-    (subst (λ ws. IsLaid ws (t.width + 1) (t.rows + o.rows)) (sym same)
-    (joined_laid t.words.items grown c.join.new.words o.words.items n t.width t.rows o.rows c.in_ok-grow.ensures.ok long x c.table.invariant.0 laid (omega (arith, have, more))),
-    c.table.invariant.1)
+    let same = with_items_is c.grow.new.words c.join.new.words (x.long ∙ sym c.grow.new.words.ok.0) in (
+      subst (λ ws. IsLaid ws (t.width + 1) (t.rows + o.rows)) (sym same)
+          (joined_laid t.words.items grown c.join.new.words o.words.items n t.width t.rows o.rows c.in_ok-grow.ensures.ok long x c.table.invariant.0 laid (omega (arith, have, more))),
+      c.table.invariant.1,
+    )
 
 pub returns-clause-ok : goal.returns-clause-ok
 returns-clause-ok g c =

@@ -1,7 +1,6 @@
-use Rattle.std.proofs.Common.{◌≡◌, ◌+◌, ◌*◌, ◌/◌, ◌%◌, ◌<◌, ◌≤◌, false, [], length, get_or, take, drop, IfOk, sym, ap, ◌∙◌, subst, arith}
+use Rattle.std.proofs.Common.{◌≡◌, ◌+◌, ◌≤◌, false, length, take, drop, IfOk, sym, ap, ◌∙◌, subst, arith}
 use Rattle.std.proofs.lemmas.Result.{IfOk-weaker}
 use Rattle.bits_law.specs.Numbers.{holds, number_at, IsAnswer}
-use Rattle.bits_law.specs.Blocks.{asked_rows, number_in}
 use Rattle.bits_law.proofs.BlockLemmas.{held_wide}
 use Rattle.bits_law.proofs.AskLemmas.{answer_held}
 use Rattle.bits_law.proofs.table.Table.ask.Goals as goal

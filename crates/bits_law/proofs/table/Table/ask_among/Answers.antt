@@ -1,8 +1,7 @@
-use Rattle.std.proofs.Common.{◌≡◌, ◌+◌, ◌*◌, ◌/◌, ◌%◌, ◌<◌, ◌≤◌, true, [], length, get_or, take, drop, IfOk, sym, ap, ◌∙◌, subst, arith}
+use Rattle.std.proofs.Common.{◌≡◌, ◌+◌, ◌≤◌, true, length, take, drop, IfOk, sym, ap, ◌∙◌, subst, arith}
 use Rattle.std.proofs.lemmas.List.FromFn.{length-map-range_with_len}
 use Rattle.std.proofs.lemmas.Result.{IfOk-weaker}
 use Rattle.bits_law.specs.Numbers.{holds, number_at, IsAnswer}
-use Rattle.bits_law.specs.Blocks.{asked_rows, number_in}
 use Rattle.bits_law.proofs.BlockLemmas.{held_wide, held_present}
 use Rattle.bits_law.proofs.AskLemmas.{answer_held, answer_among}
 use Rattle.bits_law.proofs.table.Table.ask_among.Goals as goal

@@ -1,6 +1,4 @@
-use Rattle.std.proofs.Common.{◌≡◌, ◌∙◌, ap, refl, arith, subst, sym}
-use Rattle.bits_law.specs.Blocks.{IsLaid}
-use Rattle.bits_law.proofs.BlockLemmas.{held_wide, held_column, laid_none}
+use Rattle.bits_law.proofs.BlockLemmas.{held_wide, held_column}
 use Rattle.bits_law.proofs.table.Table.new.Goals as goal
 
 pub returns-clause-wide : goal.returns-clause-wide

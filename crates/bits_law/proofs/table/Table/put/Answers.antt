@@ -1,4 +1,4 @@
-use Rattle.std.proofs.Common.{◌≡◌, ◌+◌, ◌-◌, ◌*◌, ◌/◌, ◌≤◌, length, sym, ap, ◌∙◌, refl, subst, arith}
+use Rattle.std.proofs.Common.{◌≡◌, ◌+◌, ◌-◌, ◌*◌, length, sym, ap, ◌∙◌, subst, arith}
 use Rattle.std.proofs.lemmas.List.{with_items_is}
 use Rattle.bits_law.specs.Contents.{IsPlaced}
 use Rattle.bits_law.specs.Blocks.{blocks, held, IsLaid}
@@ -20,10 +20,11 @@ invariant_of-self-2 g c =
     let n = blocks (c.args.row + 1) * (t.width + 1) - length t.words.items in
     let long = grown_long t.words.items grown (t.width + 1) t.rows (c.args.row + 1) (omega (arith, c.requires)) c.in_ok-grow.ensures.ok c.self.invariant.0 in
     let marked = rw c.deref_mut.ensures.value at c.mark_row.ensures in
-    let same = with_items_is c.grow.new.words c.mark_row.new.words (marked.long ∙ sym c.grow.new.words.ok.0) in
-    (subst (λ ws. IsLaid ws (t.width + 1) (c.args.row + 1)) (sym same)
-    (placed_laid t.words.items grown c.mark_row.new.words n t.width t.rows c.args.row bit (omega (arith, c.requires)) c.in_ok-grow.ensures.ok marked c.self.invariant.0 long (omega (arith, c.if-row-ge-LONGEST.false))),
-    c.self.invariant.1)
+    let same = with_items_is c.grow.new.words c.mark_row.new.words (marked.long ∙ sym c.grow.new.words.ok.0) in (
+      subst (λ ws. IsLaid ws (t.width + 1) (c.args.row + 1)) (sym same)
+          (placed_laid t.words.items grown c.mark_row.new.words n t.width t.rows c.args.row bit (omega (arith, c.requires)) c.in_ok-grow.ensures.ok marked c.self.invariant.0 long (omega (arith, c.if-row-ge-LONGEST.false))),
+      c.self.invariant.1,
+    )
 
 pub returns-clause-ok : goal.returns-clause-ok
 returns-clause-ok g c =

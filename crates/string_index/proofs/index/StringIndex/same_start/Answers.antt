@@ -1,4 +1,4 @@
-use Rattle.std.proofs.Common.{◌≡◌, length, ap, ◌∙◌, arith}
+use Rattle.std.proofs.Common.{◌∙◌, arith}
 use Rattle.string_index.proofs.TextLemmas.{start_none, start_more, start_all}
 use Rattle.string_index.proofs.index.StringIndex.same_start.Goals as goal
 

@@ -1,4 +1,4 @@
-use Rattle.std.proofs.Common.{◌<◌, ◌^◌, arith}
+use Rattle.std.proofs.Common.{arith}
 use Rattle.string_index.proofs.TextLemmas.{unit_more_small, unit_more, unit_all}
 use Rattle.string_index.proofs.index.TextKeyRowBits.word.Goals as goal
 
