@@ -121,7 +121,8 @@ impl<B: Bits> NetIndex<B> {
 
     /// The rows that have a key, as a copy.
     pub fn present(&self) -> Result<B, AllocError>
-        ensures { IfOk result (λ b. (keys : List (Option Subnet)) → HoldsNets self.now.addresses.table self.now.lengths keys → B.bits b ≡ answers (λ _. true) keys) }
+        ensures rows { IfOk result (λ b. length (B.bits b) ≡ length self.now.lengths.present) }
+        ensures keys { IfOk result (λ b. (keys : List (Option Subnet)) → HoldsNets self.now.addresses.table self.now.lengths keys → B.bits b ≡ answers (λ _. true) keys) }
     {
         self.lengths.present()
     }
@@ -130,7 +131,8 @@ impl<B: Bits> NetIndex<B> {
     pub fn equal(&self, base: u128, bits: u8) -> Result<B, AllocError>
         requires narrow { bits ≤ 128 }
         requires masked { base % 2 ^ (128 - bits) ≡ 0 }
-        ensures { IfOk result (λ b. (keys : List (Option Subnet)) → HoldsNets self.now.addresses.table self.now.lengths keys → B.bits b ≡ answers (is_net base bits) keys) }
+        ensures rows { IfOk result (λ b. length (B.bits b) ≡ length self.now.lengths.present) }
+        ensures keys { IfOk result (λ b. (keys : List (Option Subnet)) → HoldsNets self.now.addresses.table self.now.lengths keys → B.bits b ≡ answers (is_net base bits) keys) }
     {
         let rows = self.addresses.equal(base)?;
         ask_length(&self.lengths, &rows, Order::Eq, bits)
@@ -140,7 +142,8 @@ impl<B: Bits> NetIndex<B> {
     pub fn within(&self, base: u128, bits: u8) -> Result<B, AllocError>
         requires narrow { bits ≤ 128 }
         requires masked { base % 2 ^ (128 - bits) ≡ 0 }
-        ensures { IfOk result (λ b. (keys : List (Option Subnet)) → HoldsNets self.now.addresses.table self.now.lengths keys → B.bits b ≡ answers (net_within base bits) keys) }
+        ensures rows { IfOk result (λ b. length (B.bits b) ≡ length self.now.lengths.present) }
+        ensures keys { IfOk result (λ b. (keys : List (Option Subnet)) → HoldsNets self.now.addresses.table self.now.lengths keys → B.bits b ≡ answers (net_within base bits) keys) }
     {
         let rows = self.addresses.within(base, bits)?;
         ask_length(&self.lengths, &rows, Order::Ge, bits)
@@ -150,6 +153,7 @@ impl<B: Bits> NetIndex<B> {
     pub fn covers(&self, base: u128, bits: u8) -> Result<B, AllocError>
         requires narrow { bits ≤ 128 }
         requires masked { base % 2 ^ (128 - bits) ≡ 0 }
+        ensures rows { IfOk result (λ b. length (B.bits b) ≡ length self.now.lengths.present) }
         ensures keys { IfOk result (λ b. (keys : List (Option Subnet)) → HoldsNets self.now.addresses.table self.now.lengths keys → B.bits b ≡ answers (net_covers base bits) keys) }
     {
         let table = &self.addresses.table;

@@ -1,4 +1,4 @@
-use Rattle.std.proofs.Common.{◌≡◌, ◌∷◌, []}
+use Rattle.std.proofs.Common.{◌≡◌}
 use Rattle.index_rows.proofs.tests.in_digits.Given as goal
 
 abbrev pub invariant-loop-at : goal.invariant-loop-at
