@@ -1,40 +1,33 @@
--- How an address index grows, and what it answers.
-use Rattle.std.proofs.Common.{◌≡◌, ℕ, ◌+◌, ◌-◌, ◌*◌, ◌/◌, ◌%◌, ◌^◌, ◌<◌, ◌≤◌, Bool, true, eqb, ◌&&◌, List, [], ◌++◌, length, get_or, take, drop, Option, Result, Ok, Err, IfOk, refl, ap, sym, ◌∙◌, subst, inl, inr, arith}
+-- What an address index answers.
+use Rattle.std.proofs.Common.{◌≡◌, ℕ, ◌+◌, ◌-◌, ◌*◌, ◌/◌, ◌%◌, ◌^◌, ◌<◌, ◌≤◌, Bool, true, eqb, ltb, ◌&&◌, List, [], length, get_or, take, drop, Option, Result, Ok, Err, IfOk, refl, ap, sym, ◌∙◌, subst, inl, inr, arith}
 use Rattle.std.proofs.Math.Nat.{div-one, mod-eq_of_lt}
 use Rattle.std.proofs.Math.Nat.{div-lt_iff_lt-mul, div-add-mod, mul_comm, mul-le-mul_left, div-eq_of_lt}
 use Rattle.std.proofs.lemmas.Nat.{pow-add, pow_pos, shr-shr}
 use Rattle.std.proofs.lemmas.Bool.Decides.{nat_tests}
 use Rattle.std.proofs.lemmas.Bool.{cases_eq}
-use Rattle.bits_law.specs.Keys.{answers, with_gap, with_key}
-use Rattle.bits_law.specs.Numbers.{number_at, IsAnswer}
-use Rattle.bits_law.specs.Contents.{Contents, IsPlaced, IsPadded, IsJoined}
-use Rattle.bits_law.proofs.AnswerLemmas.{EachKey-gap, EachKey-key, EachKey-append, asked_slices, length-answers, answers-same}
-use Rattle.bits_law.proofs.TableLemmas.{stands-new, stands-placed, stands-padded, stands-joined}
-use Rattle.address_index.specs.Addresses.{address_bit, IsAddress, within, Holds}
+use Rattle.bits_law.specs.Keys.{answers}
+use Rattle.bits_law.specs.Numbers.{number_at, has_bit, IsAnswer}
+use Rattle.bits_law.specs.Contents.{Contents}
+use Rattle.bits_law.proofs.AnswerLemmas.{asked_slices, answers-same}
+use Rattle.bits_law.proofs.WordBits.{bit-low, down}
+use Rattle.address_index.specs.Addresses.{address_bit, within, Holds}
 
-pub holds_new : (table : Contents) → table.present ≡ [] → length table.columns ≡ 128 → ((j : ℕ) → j < 128 → get_or table.columns j [] ≡ []) → Holds table []
-holds_new table p w c = record { stands = stands-new 128 address_bit table p w c; each = λ row key e. cc }
+-- a column of the 128
+pub in_address : (j : ℕ) (b : Bool) → j < 128 → (ltb j 128 && b) ≡ b
+in_address j b l = let less : ltb j 128 ≡ true = grind (arith, nat_tests) in ap (λ x. x && b) less
 
-pub holds_key : (keys : List (Option ℕ)) (old new : Contents) (row : ℕ) (key : ℕ) → IsAddress key → Holds old keys → IsPlaced old new row (λ j. address_bit j key) → Holds new (with_key keys row key)
-holds_key keys old new row key l h p = record {
-  stands = stands-placed 128 address_bit keys old new row key _ (λ j u. refl) h.stands p;
-  each = EachKey-key IsAddress keys row key h.each l;
-}
+-- the bits of an address in two words, the highest first
+pub high_part : (address part j : ℕ) → part ≡ 0 → j < 64 → has_bit (address / 2 ^ 64) (63 - j) ≡ (ltb (64 * part + j) 128 && address_bit (64 * part + j) address)
+high_part address part j e l =
+    let less : ltb (64 * part + j) 128 ≡ true = grind (arith, nat_tests) in
+    let place : 64 + (63 - j) ≡ 127 - (64 * part + j) = omega arith in
+    down address 64 (63 - j) ∙ ap (has_bit address) place ∙ ap (λ b. b && address_bit (64 * part + j) address) (sym less)
 
-pub holds_gap : (keys : List (Option ℕ)) (old new : Contents) (rows : ℕ) → Holds old keys → IsPadded old new rows → Holds new (with_gap keys rows)
-holds_gap keys old new rows h p = record {
-  stands = stands-padded 128 address_bit keys old new rows h.stands p;
-  each = EachKey-gap IsAddress keys rows h.each;
-}
-
-pub holds_joined : (keys more : List (Option ℕ)) (old other new : Contents) → Holds old keys → Holds other more → IsJoined old other new → Holds new (keys ++ more)
-holds_joined keys more old other new h o p = record {
-  stands = stands-joined 128 address_bit keys more old other new h.stands o.stands p;
-  each = EachKey-append IsAddress keys more h.each o.each;
-}
-
-pub holds_rows : (keys : List (Option ℕ)) (table : Contents) → Holds table keys → length table.present ≡ length keys
-holds_rows keys table h = ap length h.stands.present ∙ length-answers (λ _. true) keys
+pub low_part : (address part j : ℕ) → part ≡ 1 → j < 64 → has_bit (address % 2 ^ 64) (63 - j) ≡ (ltb (64 * part + j) 128 && address_bit (64 * part + j) address)
+low_part address part j e l =
+    let less : ltb (64 * part + j) 128 ≡ true = grind (arith, nat_tests) in
+    let place : 63 - j ≡ 127 - (64 * part + j) = omega arith in
+    bit-low address (63 - j) (omega arith) ∙ ap (has_bit address) place ∙ ap (λ b. b && address_bit (64 * part + j) address) (sym less)
 
 -- the columns from `from` on, as bits of the address
 address_bits : (keys : List (Option ℕ)) (table : Contents) (from n m j : ℕ) → from + n + m ≡ 128 → j < n → Holds table keys → get_or table.columns (from + j) [] ≡ answers (λ key. eqb (key / 2 ^ (m + (n - 1 - j)) % 2) 1) keys
@@ -103,23 +96,23 @@ prefix_fits base bits l u =
     let big : 2 ^ 128 * 1 ≤ 2 ^ 128 * 2 ^ (64 - bits) = mul-le-mul_left (2 ^ 128) (pow_pos (64 - bits)) in
     (div-lt_iff_lt-mul {k = 2 ^ (128 - bits)} {x = base} {y = 2 ^ 64} (pow_pos (128 - bits))).1 (subst (λ x. base < x) (sym p) (omega (arith, big)))
 
-pub within_ok : {B E : Type 0} (bits_of : B → List Bool) (table : Contents) (base bits : ℕ) (among : List Bool) (result : Result B E) → bits ≤ 128 → length table.columns ≡ 128 → among ≡ table.present → IfOk result (λ b. IsAnswer (bits_of b) among (λ row. eqb (number_at (take bits (drop 0 table.columns)) row) (base / 2 ^ (128 - bits)))) → IfOk result (λ b. (keys : List (Option ℕ)) → Holds table keys → bits_of b ≡ answers (within base bits) keys)
-within_ok bits_of table base bits among (Ok b) l w e a = λ keys h. within_few keys table base bits (bits_of b) l w h (subst (λ xs. IsAnswer (bits_of b) xs (λ row. eqb (number_at (take bits (drop 0 table.columns)) row) (base / 2 ^ (128 - bits)))) e a)
-within_ok bits_of table base bits among (Err x) l w e a = tt
+pub within_ok : {B E : Type 0} (bits_of : B → List Bool) (table : Contents) (base bits : ℕ) (result : Result B E) → bits ≤ 128 → length table.columns ≡ 128 → IfOk result (λ b. IsAnswer (bits_of b) table.present (λ row. eqb (number_at (take bits (drop 0 table.columns)) row) (base / 2 ^ (128 - bits)))) → IfOk result (λ b. (keys : List (Option ℕ)) → Holds table keys → bits_of b ≡ answers (within base bits) keys)
+within_ok bits_of table base bits (Ok b) l w a = λ keys h. within_few keys table base bits (bits_of b) l w h a
+within_ok bits_of table base bits (Err x) l w a = tt
 
-pub within_both : {B E : Type 0} (bits_of : B → List Bool) (table : Contents) (base bits : ℕ) (among high : List Bool) (result : Result B E) → 64 < bits → bits ≤ 128 → length table.columns ≡ 128 → among ≡ table.present → IsAnswer high among (λ row. eqb (number_at (take 64 (drop 0 table.columns)) row) (base / 2 ^ 64)) → IfOk result (λ b. IsAnswer (bits_of b) high (λ row. eqb (number_at (take (bits - 64) (drop 64 table.columns)) row) (base / 2 ^ (128 - bits) % 2 ^ (bits - 64)))) → IfOk result (λ b. (keys : List (Option ℕ)) → Holds table keys → bits_of b ≡ answers (within base bits) keys)
-within_both bits_of table base bits among high (Ok b) more l w e f a = λ keys h. within_many keys table base bits high (bits_of b) more l w h (subst (λ xs. IsAnswer high xs (λ row. eqb (number_at (take 64 (drop 0 table.columns)) row) (base / 2 ^ 64))) e f) a
-within_both bits_of table base bits among high (Err x) more l w e f a = tt
+pub within_both : {B E : Type 0} (bits_of : B → List Bool) (table : Contents) (base bits : ℕ) (high : List Bool) (result : Result B E) → 64 < bits → bits ≤ 128 → length table.columns ≡ 128 → IsAnswer high table.present (λ row. eqb (number_at (take 64 (drop 0 table.columns)) row) (base / 2 ^ 64)) → IfOk result (λ b. IsAnswer (bits_of b) high (λ row. eqb (number_at (take (bits - 64) (drop 64 table.columns)) row) (base / 2 ^ (128 - bits) % 2 ^ (bits - 64)))) → IfOk result (λ b. (keys : List (Option ℕ)) → Holds table keys → bits_of b ≡ answers (within base bits) keys)
+within_both bits_of table base bits high (Ok b) more l w f a = λ keys h. within_many keys table base bits high (bits_of b) more l w h f a
+within_both bits_of table base bits high (Err x) more l w f a = tt
 
 -- every address has a prefix of no bits
-pub within_none : {B E : Type 0} (bits_of : B → List Bool) (table : Contents) (base bits : ℕ) (among : List Bool) (result : Result B E) → bits ≡ 0 → base < 2 ^ 128 → among ≡ table.present → IfOk result (λ b. bits_of b ≡ among) → IfOk result (λ b. (keys : List (Option ℕ)) → Holds table keys → bits_of b ≡ answers (within base bits) keys)
-within_none bits_of table base bits among (Ok b) z u e a = λ keys h.
-    a ∙ e ∙ h.stands.present ∙ answers-same (λ _. true) (within base bits) keys (λ row key l q.
+pub within_none : {B E : Type 0} (bits_of : B → List Bool) (table : Contents) (base bits : ℕ) (result : Result B E) → bits ≡ 0 → base < 2 ^ 128 → IfOk result (λ b. bits_of b ≡ table.present) → IfOk result (λ b. (keys : List (Option ℕ)) → Holds table keys → bits_of b ≡ answers (within base bits) keys)
+within_none bits_of table base bits (Ok b) z u a = λ keys h.
+    a ∙ h.stands.present ∙ answers-same (λ _. true) (within base bits) keys (λ row key l q.
     let top : 128 - bits ≡ 128 = omega arith in
     let one = div-eq_of_lt {n = key} {m = 2 ^ 128} (h.each row key q) in
     let two = div-eq_of_lt {n = base} {m = 2 ^ 128} u in
     rw (top, one, two) refl)
-within_none bits_of table base bits among (Err x) z u e a = tt
+within_none bits_of table base bits (Err x) z u a = tt
 
 pub equal_ok : {B E : Type 0} (bits_of : B → List Bool) (table : Contents) (address : ℕ) (result : Result B E) → IfOk result (λ b. (keys : List (Option ℕ)) → Holds table keys → bits_of b ≡ answers (within address 128) keys) → IfOk result (λ b. (keys : List (Option ℕ)) → Holds table keys → bits_of b ≡ answers (λ key. eqb key address) keys)
 equal_ok bits_of table address (Ok b) a = λ keys h.

@@ -1,8 +1,7 @@
 -- What a subnet index stands for.
 use Rattle.std.specs.Prelude.{◌≡◌, ℕ, ◌-◌, ◌%◌, ◌^◌, ◌<◌, ◌≤◌, Bool, ◌&&◌, List, Option, nat_eq, nat_le}
-use Rattle.bits_law.specs.Keys.{EachKey}
 use Rattle.bits_law.specs.Numbers.{has_bit}
-use Rattle.bits_law.specs.Contents.{Contents, StandsFor}
+use Rattle.bits_law.specs.Contents.{Contents, HoldsKeys}
 use Rattle.address_index.specs.Addresses.{address_bit, within}
 
 -- the addresses that have the first `bits` bits of `base`
@@ -35,8 +34,11 @@ net_within base bits net = within base bits net.base && nat_le bits net.bits
 abbrev pub net_covers : ℕ → ℕ → Subnet → Bool
 net_covers base bits net = nat_le net.bits bits && within base net.bits net.base
 
+-- column j of the bases is a bit of the subnet's base
+abbrev pub base_bit : ℕ → Subnet → Bool
+base_bit j net = address_bit j net.base
+
 -- the columns are those of the subnets' bases and lengths
 pub record HoldsNets (addresses lengths : Contents) (keys : List (Option Subnet)) : Type 0 where
-  pub bases : StandsFor 128 (λ j net. address_bit j net.base) keys addresses
-  pub sizes : StandsFor 8 length_bit keys lengths
-  pub each : EachKey IsSubnet keys
+  pub bases : HoldsKeys 128 base_bit IsSubnet addresses keys
+  pub sizes : HoldsKeys 8 length_bit IsSubnet lengths keys

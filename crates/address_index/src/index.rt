@@ -1,10 +1,9 @@
-ghost use Rattle.std.specs.Prelude.{◌≡◌, ◌+◌, ◌-◌, ◌^◌, ◌<◌, ◌≤◌, ◌++◌, ◌&&◌, List, [], length, IfOk, OnOk, IfErr, Option, ℕ, take, drop, ◌/◌, ◌%◌, nat_eq, true};
+ghost use Rattle.std.specs.Prelude.{◌≡◌, ◌+◌, ◌-◌, ◌^◌, ◌<◌, ◌≤◌, ◌++◌, ◌&&◌, List, [], length, IfOk, OnOk, OnErr, IfErr, Option, ℕ, ◌%◌, nat_eq, true};
 ghost use Rattle.bits_law.specs.Keys.{answers, with_gap, with_key};
-ghost use Rattle.bits_law.specs.Numbers.{number_at, IsAnswer};
 ghost use Rattle.bits_law.specs.Refusal.{refusal, rows_to};
 ghost use Rattle.address_index.specs.Addresses.{address_bit, within, Holds};
 
-use bits_law::{Bits, BitsEnd, Order, RowBits, Table, slices_ask};
+use bits_law::{Bits, BitsEnd, Order, RowBits, Table};
 use std::alloc::{AllocError, Global};
 
 /// The bits of an address.
@@ -14,11 +13,20 @@ pub(crate) struct Address {
 }
 
 impl RowBits for Address {
-    ghost bit = { λ k j. address_bit j k.addr };
+    ghost use Rattle.std.specs.Prelude.{◌&&◌, nat_lt};
+
+    ghost bit = { λ k j. nat_lt j 128 && address_bit j k.addr };
 
     fn bit(&self, column: usize) -> bool {
-        let at = 127usize.saturating_sub(column);
-        self.addr >> at & 1 == 1
+        column < 128 && self.addr >> (127 - column) & 1 == 1
+    }
+
+    fn word(&self, part: usize) -> u64 {
+        match part {
+            0 => (self.addr >> 64) as u64,
+            1 => (self.addr % (1 << 64)) as u64,
+            _ => 0,
+        }
     }
 }
 
@@ -43,29 +51,43 @@ impl<B: Bits> AddrIndex<B> {
     /// How many rows there are.
     pub fn rows(&self) -> u64
         ensures value { result ≡ length self.now.table.present }
-        ensures keys { (keys : List (Option (ℕ))) → Holds self.now.table keys → result ≡ length keys }
+        ensures keys { (keys : List (Option ℕ)) → Holds self.now.table keys → result ≡ length keys }
     {
         self.table.rows()
+    }
+
+    /// Puts a key at `row`, the rows between having none. `TooLong` comes exactly where there would be more than 2^40
+    /// rows. After a refusal the index is as before.
+    pub fn put(&mut self, row: u64, addr: u128) -> Result<(), BitsEnd>
+        requires after { length self.old.table.present ≤ row }
+        ensures keys { OnOk result ((keys : List (Option ℕ)) → Holds self.old.table keys → Holds self.new.table (with_key keys row addr)) }
+        ensures rows { OnOk result (length self.new.table.present ≡ row + 1) }
+        ensures fits { OnOk result (row < 2 ^ 40) }
+        ensures end { IfErr result (λ e. e ≡ refusal (length self.old.table.present) (rows_to (length self.old.table.present) row)) }
+        ensures err { OnErr result (self.new.table ≡ self.old.table) }
+    {
+        self.table.put(row, &Address { addr })
     }
 
     /// Puts a key at `row`, the rows between having none. `TooLong` comes exactly where there would be more than 2^40
     /// rows.
     pub fn add(self, row: u64, addr: u128) -> Result<Self, BitsEnd>
         requires after { length self.table.present ≤ row }
-        ensures keys { IfOk result (λ i. (keys : List (Option (ℕ))) → Holds self.table keys → Holds i.table (with_key keys row addr)) }
+        ensures keys { IfOk result (λ i. (keys : List (Option ℕ)) → Holds self.table keys → Holds i.table (with_key keys row addr)) }
+        ensures rows { IfOk result (λ i. length i.table.present ≡ row + 1) }
         ensures fits { OnOk result (row < 2 ^ 40) }
         ensures end { IfErr result (λ e. e ≡ refusal (length self.table.present) (rows_to (length self.table.present) row)) }
     {
-        let AddrIndex { table } = self;
-        Ok(AddrIndex {
-            table: table.add(row, &Address { addr })?,
-        })
+        let mut index = self;
+        index.put(row, addr)?;
+        Ok(index)
     }
 
     /// Adds rows without a key up to `rows`. `TooLong` comes exactly where there would be more than 2^40 rows.
     pub fn pad(self, rows: u64) -> Result<Self, BitsEnd>
         requires { length self.table.present ≤ rows }
-        ensures keys { IfOk result (λ i. (keys : List (Option (ℕ))) → Holds self.table keys → Holds i.table (with_gap keys rows)) }
+        ensures keys { IfOk result (λ i. (keys : List (Option ℕ)) → Holds self.table keys → Holds i.table (with_gap keys rows)) }
+        ensures rows { IfOk result (λ i. length i.table.present ≡ rows) }
         ensures fits { OnOk result (rows ≤ 2 ^ 40) }
         ensures end { IfErr result (λ e. e ≡ refusal (length self.table.present) (rows - length self.table.present)) }
     {
@@ -77,7 +99,8 @@ impl<B: Bits> AddrIndex<B> {
 
     /// Adds the rows of another index. `TooLong` comes exactly where there would be more than 2^40 rows.
     pub fn append(self, other: &Self) -> Result<Self, BitsEnd>
-        ensures keys { IfOk result (λ i. (keys more : List (Option (ℕ))) → Holds self.table keys → Holds other.now.table more → Holds i.table (keys ++ more)) }
+        ensures keys { IfOk result (λ i. (keys more : List (Option ℕ)) → Holds self.table keys → Holds other.now.table more → Holds i.table (keys ++ more)) }
+        ensures rows { IfOk result (λ i. length i.table.present ≡ length self.table.present + length other.now.table.present) }
         ensures fits { OnOk result (length self.table.present + length other.now.table.present ≤ 2 ^ 40) }
         ensures end { IfErr result (λ e. e ≡ refusal (length self.table.present) (length other.now.table.present)) }
     {
@@ -92,7 +115,7 @@ impl<B: Bits> AddrIndex<B> {
         ensures rows { IfOk result (λ b. length (B.bits b) ≡ length self.now.table.present) }
         ensures keys { IfOk result (λ b. (keys : List (Option ℕ)) → Holds self.now.table keys → B.bits b ≡ answers (λ _. true) keys) }
     {
-        self.table.present().duplicate()
+        self.table.present()
     }
 
     /// The rows whose address is `addr`.
@@ -112,33 +135,15 @@ impl<B: Bits> AddrIndex<B> {
     {
         let table = &self.table;
         if bits == 0 {
-            return table.present().duplicate();
+            return table.present();
         }
         let rest = 128 - bits;
         let part = base >> rest;
         if bits <= 64 {
-            return ask_part(table, table.present(), 0, bits as usize, part as u64);
+            return table.ask(0, bits as usize, Order::Eq, part as u64);
         }
-        let high = ask_part(table, table.present(), 0, 64, (base >> 64) as u64)?;
+        let high = table.ask(0, 64, Order::Eq, (base >> 64) as u64)?;
         let low = part % (1u128 << (bits - 64));
-        ask_part(table, &high, 64, bits as usize - 64, low as u64)
+        table.ask_among(&high, 64, bits as usize - 64, Order::Eq, low as u64)
     }
-}
-
-/// The rows of `among` whose `count` columns from `from` on spell `key`.
-pub(crate) fn ask_part<B: Bits>(
-    table: &Table<B>,
-    among: &B,
-    from: usize,
-    count: usize,
-    key: u64,
-) -> Result<B, AllocError>
-    requires some { 0 < count }
-    requires few { count ≤ 64 }
-    requires within { from + count ≤ length table.now.columns }
-    requires even { length (B.bits among.now) ≡ length table.now.present }
-    ensures { IfOk result (λ b. IsAnswer (B.bits b) (B.bits among.now) (λ row. nat_eq (number_at (take count (drop from table.now.columns)) row) key)) }
-{
-    let slices = &table.columns()[from..from + count];
-    slices_ask(table.alloc(), slices, among, Order::Eq, key)
 }

@@ -1,6 +1,10 @@
 pub mod BitwiseLemmas
 pub mod NumberLemmas
 pub mod RefusalLemmas
-pub mod TableLemmas
 pub mod AnswerLemmas
-pub mod PartLemmas
+pub mod TableLemmas
+pub mod WordBits
+pub mod MarkLemmas
+pub mod BlockLemmas
+pub mod AskLemmas
+pub mod MergeLemmas

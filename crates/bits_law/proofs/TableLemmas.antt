@@ -1,9 +1,9 @@
 -- How a table that stands for keys grows with them.
-use Rattle.std.proofs.Common.{◌≡◌, ℕ, zero, suc, ◌+◌, ◌-◌, ◌<◌, Bool, true, false, List, [], ◌∷◌, ◌++◌, length, get_or, set, map, replicate, Option, None, Some, refl, ap, sym, ◌∙◌, inl, inr, arith}
-use Rattle.std.proofs.lemmas.List.{map-append, map-set, length-map, length-set, get_or-map, get_or-set_same, get_or-set_other}
-use Rattle.std.proofs.lemmas.Bool.{cases_lt}
+use Rattle.std.proofs.Common.{◌≡◌, ℕ, zero, suc, ◌-◌, ◌<◌, Bool, true, false, List, [], ◌∷◌, ◌++◌, length, get_or, replicate, Option, None, Some, Result, Ok, Err, OnOk, refl, ap, sym, ◌∙◌, arith}
+use Rattle.std.proofs.lemmas.List.{map-append, length-map}
 use Rattle.bits_law.specs.Keys.{padded, placed, with_gap, with_key, meets, answers}
-use Rattle.bits_law.specs.Contents.{Contents, StandsFor, IsPlaced, IsPadded, IsJoined, ChangedTo}
+use Rattle.bits_law.specs.Contents.{Contents, StandsFor, HoldsKeys, IsPlaced, IsPadded, IsJoined}
+use Rattle.bits_law.proofs.AnswerLemmas.{EachKey-gap, EachKey-key, EachKey-append, length-answers}
 
 module _ {K : Type 0} (test : K → Bool) where
   answers-gap : (n : ℕ) → answers test (replicate n None) ≡ replicate n false
@@ -50,22 +50,31 @@ module _ {K : Type 0} (width : ℕ) (bit : ℕ → K → Bool) where
     column = λ j l. p.each.column j (omega (arith, s.wide)) ∙ ap (λ xs. xs ++ get_or other.columns j []) (s.column j l) ∙ ap (λ xs. answers (bit j) keys ++ xs) (o.column j l) ∙ sym (answers-append (bit j) keys more);
   }
 
-module _ {B : Type 0} (bits : B → List Bool) (change : ℕ → List Bool → List Bool) where
-  pub changed-none : (old : List B) → ChangedTo bits change old old 0
-  changed-none old = record { wide = refl; before = λ j l. absurd (omega arith); after = λ j l. refl }
+module _ {K : Type 0} (width : ℕ) (bit : ℕ → K → Bool) (IsKey : K → Type 0) where
+  pub holds_new : (table : Contents) → table.present ≡ [] → length table.columns ≡ width → ((j : ℕ) → j < width → get_or table.columns j [] ≡ []) → HoldsKeys width bit IsKey table []
+  holds_new table p w c = record { stands = stands-new width bit table p w c; each = λ row key e. cc }
 
-  -- the column that is changed next is as it was
-  pub changed-here : (old new : List B) (j : ℕ) (d : B) → j < length new → ChangedTo bits change old new j → bits (get_or new j d) ≡ get_or (map bits old) j []
-  changed-here old new j d l c = sym (get_or-map bits new j d [] l) ∙ c.after j (omega arith)
-
-  pub changed-more : (old new : List B) (j : ℕ) (d y : B) → j < length new → bits y ≡ change j (bits (get_or new j d)) → ChangedTo bits change old new j → ChangedTo bits change old (set new j y) (j + 1)
-  changed-more old new j d y l h c = record {
-    wide = length-set new j y ∙ c.wide;
-    before = λ k under. elim (cases_lt k j) [
-      | inl less ↦ rw map-set (get_or-set_other (map bits new) j k (bits y) [] (omega arith) ∙ c.before k less)
-      | inr not_less ↦
-          let k_is : k ≡ j = omega arith in
-          rw (k_is, map-set) (get_or-set_same (map bits new) j (bits y) [] (omega (arith, length-map new bits)) ∙ h ∙ ap (change j) (changed-here old new j d l c))
-    ];
-    after = λ k over. rw map-set (get_or-set_other (map bits new) j k (bits y) [] (omega arith) ∙ c.after k (omega arith));
+  pub holds_key : (keys : List (Option K)) (old new : Contents) (row : ℕ) (key : K) (bits : ℕ → Bool) → ((j : ℕ) → j < width → bits j ≡ bit j key) → IsKey key → HoldsKeys width bit IsKey old keys → IsPlaced old new row bits → HoldsKeys width bit IsKey new (with_key keys row key)
+  holds_key keys old new row key bits same is h p = record {
+    stands = stands-placed width bit keys old new row key bits same h.stands p;
+    each = EachKey-key IsKey keys row key h.each is;
   }
+
+  pub holds_gap : (keys : List (Option K)) (old new : Contents) (rows : ℕ) → HoldsKeys width bit IsKey old keys → IsPadded old new rows → HoldsKeys width bit IsKey new (with_gap keys rows)
+  holds_gap keys old new rows h p = record {
+    stands = stands-padded width bit keys old new rows h.stands p;
+    each = EachKey-gap IsKey keys rows h.each;
+  }
+
+  pub holds_joined : (keys more : List (Option K)) (old other new : Contents) → HoldsKeys width bit IsKey old keys → HoldsKeys width bit IsKey other more → IsJoined old other new → HoldsKeys width bit IsKey new (keys ++ more)
+  holds_joined keys more old other new h o p = record {
+    stands = stands-joined width bit keys more old other new h.stands o.stands p;
+    each = EachKey-append IsKey keys more h.each o.each;
+  }
+
+  pub holds_rows : (keys : List (Option K)) (table : Contents) → HoldsKeys width bit IsKey table keys → length table.present ≡ length keys
+  holds_rows keys table h = ap length h.stands.present ∙ length-answers (λ _. true) keys
+
+  pub holds_put : {R E : Type 0} (result : Result R E) (old new : Contents) (row : ℕ) (key : K) (bits : ℕ → Bool) → ((j : ℕ) → j < width → bits j ≡ bit j key) → IsKey key → OnOk result (IsPlaced old new row bits) → OnOk result ((keys : List (Option K)) → HoldsKeys width bit IsKey old keys → HoldsKeys width bit IsKey new (with_key keys row key))
+  holds_put (Ok r) old new row key bits same is p = λ keys h. holds_key keys old new row key bits same is h p
+  holds_put (Err e) old new row key bits same is p = tt

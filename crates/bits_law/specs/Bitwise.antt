@@ -1,5 +1,5 @@
 -- Bitmaps as lists of bools.
-use Rattle.std.specs.Prelude.{◌≡◌, ◌≢◌, ℕ, ◌<◌, ◌≤◌, Bool, true, false, List, [], ◌∷◌, Some, slice_get, not, ◌&&◌}
+use Rattle.std.specs.Prelude.{◌≡◌, ◌≢◌, ℕ, zero, suc, ◌/◌, ◌%◌, ◌<◌, ◌≤◌, Bool, true, false, List, [], ◌∷◌, Some, slice_get, not, ◌&&◌, nat_eq}
 
 -- two lists joined bit by bit, up to the end of the shorter one
 abbrev pub bitwise : (Bool → Bool → Bool) → List Bool → List Bool → List Bool
@@ -20,3 +20,8 @@ pub record IsNextOne (bits : List Bool) (from at : ℕ) : Type 0 where
 -- no one stands from `from` on
 abbrev pub IsClearFrom : List Bool → ℕ → Type 0
 IsClearFrom bits from = (k : ℕ) → from ≤ k → slice_get bits k ≢ Some true
+
+-- the `n` lowest bits of a word, the lowest first
+unfoldable pub bits_below : ℕ → ℕ → List Bool
+bits_below w zero = []
+bits_below w (suc n) = nat_eq (w % 2) 1 ∷ bits_below (w / 2) n

@@ -1,6 +1,6 @@
 -- What a table of bitmaps holds, and the keys that it stands for.
-use Rattle.std.specs.Prelude.{◌≡◌, ℕ, ◌<◌, Bool, true, false, List, [], length, get_or, map, ◌≤◌, Option, ◌++◌}
-use Rattle.bits_law.specs.Keys.{padded, placed, answers}
+use Rattle.std.specs.Prelude.{◌≡◌, ℕ, ◌<◌, Bool, true, false, List, [], length, get_or, Option, ◌++◌}
+use Rattle.bits_law.specs.Keys.{padded, placed, answers, EachKey}
 
 -- which rows have a key, and the columns of bits that the keys set
 pub record Contents : Type 0 where
@@ -12,6 +12,11 @@ pub record StandsFor {K : Type 0} (width : ℕ) (bit : ℕ → K → Bool) (keys
   pub wide : length table.columns ≡ width
   pub present : table.present ≡ answers (λ _. true) keys
   pub column : (j : ℕ) → j < width → get_or table.columns j [] ≡ answers (bit j) keys
+
+-- the table stands for keys that each meet a condition: what an index of such keys holds
+pub record HoldsKeys {K : Type 0} (width : ℕ) (bit : ℕ → K → Bool) (IsKey : K → Type 0) (table : Contents) (keys : List (Option K)) : Type 0 where
+  pub stands : StandsFor width bit keys table
+  pub each : EachKey IsKey keys
 
 -- each list of the new table comes from that of the old one
 pub record EachColumn (old new : Contents) (change : ℕ → List Bool → List Bool) : Type 0 where
@@ -36,9 +41,3 @@ pub record IsJoined (old other new : Contents) : Type 0 where
 -- each column has a bit for each row
 abbrev pub IsEven : Contents → Type 0
 IsEven table = (j : ℕ) → j < length table.columns → length (get_or table.columns j []) ≡ length table.present
-
--- how a list of columns is changed one column at a time: those before `at` are changed, and the others are as before
-pub record ChangedTo {B : Type 0} (bits : B → List Bool) (change : ℕ → List Bool → List Bool) (old new : List B) (at : ℕ) : Type 0 where
-  pub wide : length new ≡ length old
-  pub before : (j : ℕ) → j < at → get_or (map bits new) j [] ≡ change j (get_or (map bits old) j [])
-  pub after : (j : ℕ) → at ≤ j → get_or (map bits new) j [] ≡ get_or (map bits old) j []

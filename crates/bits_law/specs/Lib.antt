@@ -3,3 +3,4 @@ pub mod Refusal
 pub mod Keys
 pub mod Numbers
 pub mod Contents
+pub mod Blocks

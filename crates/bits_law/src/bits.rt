@@ -1,6 +1,6 @@
 ghost use Rattle.std.specs.Prelude.{◌≡◌, ℕ, ◌+◌, ◌^◌, ◌<◌, ◌≤◌, Bool, List, [], ◌++◌, ◌&&◌, ◌||◌, not, map, length, replicate, count_by, slice_get, Some, OnOk, OnErr, IfOk, IfErr, MatchOption};
 ghost use Rattle.bits_law.specs.declared.bits.BitsEnd.TheVariants.{Memory};
-ghost use Rattle.bits_law.specs.Bitwise.{bitwise, and_not, IsNextOne, IsClearFrom};
+ghost use Rattle.bits_law.specs.Bitwise.{bitwise, bits_below, and_not, IsNextOne, IsClearFrom};
 ghost use Rattle.bits_law.specs.Refusal.{refusal};
 
 use std::alloc::{AllocError, AllocFailed, Global};
@@ -59,6 +59,28 @@ pub trait Bits: Drop {
         ensures fits { OnOk result (length (bits self.old) + n ≤ 2 ^ 40) }
         ensures end { IfErr result (λ e. e ≡ refusal (length (bits self.old)) n) }
         ensures err { OnErr result (bits self.new ≡ bits self.old) };
+
+    /// Appends the `n` lowest bits of a word, the lowest first; `n` is from 1 to 64. `TooLong` comes exactly where the
+    /// length would pass 2^40, and then the bits are as before. Where memory runs out, some of the word's first bits
+    /// may have been appended.
+    fn push_word(&mut self, word: u64, n: u64) -> Result<(), BitsEnd>
+        requires some { 0 < n }
+        requires wide { n ≤ 64 }
+        ensures ok { OnOk result (bits self.new ≡ bits self.old ++ bits_below word n) }
+        ensures fits { OnOk result (length (bits self.old) + n ≤ 2 ^ 40) }
+        ensures end { IfErr result (λ e. e ≡ refusal (length (bits self.old)) n) }
+    {
+        let have = self.len();
+        if n > LONGEST - have {
+            return Err(BitsEnd::TooLong { have, more: n });
+        }
+        let mut rest = word;
+        for _ in 0..n {
+            self.push_run(rest % 2 == 1, 1)?;
+            rest /= 2;
+        }
+        Ok(())
+    }
 
     /// Appends the bits of another bitmap. `TooLong` comes exactly where the length would pass 2^40. After a refusal
     /// the bits are as before.

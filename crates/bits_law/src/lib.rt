@@ -4,7 +4,9 @@
 //! keeps, for a list of keys of which some are missing, one bitmap for each bit that a key sets.
 #![tactic(auto)]
 
+mod answers;
 mod bits;
+mod blocks;
 mod slices;
 mod table;
 

@@ -50,7 +50,7 @@ impl<B: Bits> Split<B> {
 }
 
 /// Whether the bit `at` of a key is set, the lowest being bit 0.
-fn has_bit(key: u64, at: usize) -> bool
+pub(crate) fn has_bit(key: u64, at: usize) -> bool
     requires { at < 64 }
     ensures { result ≡ nat_eq (key / 2 ^ at % 2) 1 }
 {

@@ -1,42 +1,24 @@
 -- Digits in mixed bases, and what is asked of them.
-use Rattle.std.proofs.Common.{◌≡◌, ℕ, zero, suc, ◌+◌, ◌-◌, ◌*◌, ◌/◌, ◌%◌, ◌<◌, ◌≤◌, Bool, true, false, cond, eqb, ltb, leb, not, ◌&&◌, ◌||◌, List, [], ◌∷◌, ◌++◌, length, get_or, map, take, drop, Option, Result, Ok, Err, IfOk, refl, ap, sym, ◌∙◌, subst, inl, inr, arith}
+use Rattle.std.proofs.Common.{◌≡◌, ℕ, zero, suc, ◌+◌, ◌-◌, ◌*◌, ◌/◌, ◌%◌, ◌^◌, ◌<◌, ◌≤◌, Bool, true, false, cond, eqb, ltb, leb, not, ◌&&◌, ◌||◌, List, [], ◌∷◌, length, get_or, take, drop, Option, Result, Ok, Err, IfOk, refl, ap, sym, ◌∙◌, subst, inl, inr, arith}
 use Rattle.std.proofs.Math.Nat.{div-one, mod-one, mod-eq_of_lt, mod-lt, div-div-eq-div-mul, mul_assoc, mul_comm, mul-le-mul_right}
 use Rattle.std.proofs.Math.Arith.{mod-mul}
 use Rattle.std.proofs.lemmas.Bool.Decides.{nat_tests}
 use Rattle.std.proofs.lemmas.Bool.{cases_lt}
-use Rattle.std.proofs.lemmas.List.{get_or-map, get_or-take, get_or-drop, take_all}
+use Rattle.std.proofs.lemmas.List.{get_or-take, get_or-drop, take_all}
 use Rattle.bits_law.specs.Bitwise.{bitwise, and_not}
-use Rattle.bits_law.specs.Keys.{answers, with_gap, with_key}
-use Rattle.bits_law.specs.Numbers.{holds}
-use Rattle.bits_law.specs.Contents.{Contents, IsPlaced, IsPadded, IsJoined}
+use Rattle.bits_law.specs.Keys.{answers}
+use Rattle.std.specs.Prelude.{bit_and, bit_or}
+use Rattle.std.specs.Int.{bit_not, w64}
+use Rattle.std.proofs.lemmas.Nat.Bits.{bit_at_ones, bit_at_ones_above, ones_shr}
+use Rattle.bits_law.specs.Numbers.{has_bit, holds}
+use Rattle.bits_law.specs.Contents.{Contents}
 use Rattle.bits_law.specs.declared.slices.Order.{Order}
-use Rattle.bits_law.proofs.AnswerLemmas.{EachKey-gap, EachKey-key, EachKey-append, answers-same, answers-and, answers-or, answers-and_not}
+use Rattle.bits_law.proofs.AnswerLemmas.{answers-same, answers-and, answers-or, answers-and_not}
 use Rattle.bits_law.proofs.BitwiseLemmas.{length-bitwise}
-use Rattle.bits_law.proofs.TableLemmas.{stands-new, stands-placed, stands-padded, stands-joined}
+use Rattle.bits_law.proofs.WordBits.{bit-none, bit-and, bit-or, bit-not}
 use Rattle.digit_index.specs.declared.coding.Coding.{Coding}
 use Rattle.digit_index.specs.declared.coding.Coding.TheVariants.{Equality, Range}
 use Rattle.digit_index.specs.Digits.{AreBases, product, columns_of, is_coded, width, digit_bit, Holds, HoldsDigit}
-
-pub holds_new : (coding : Coding) (bases : List ℕ) (table : Contents) → table.present ≡ [] → length table.columns ≡ width coding bases → ((j : ℕ) → j < width coding bases → get_or table.columns j [] ≡ []) → Holds coding bases table []
-holds_new coding bases table p w c = record { digits = stands-new (width coding bases) (digit_bit coding bases) table p w c; small = λ row key e. cc }
-
-pub holds_key : (coding : Coding) (bases : List ℕ) (keys : List (Option ℕ)) (old new : Contents) (row key : ℕ) → key < product bases → Holds coding bases old keys → IsPlaced old new row (λ j. digit_bit coding bases j key) → Holds coding bases new (with_key keys row key)
-holds_key coding bases keys old new row key l h p = record {
-  digits = stands-placed (width coding bases) (digit_bit coding bases) keys old new row key _ (λ j u. refl) h.digits p;
-  small = EachKey-key (λ key. key < product bases) keys row key h.small l;
-}
-
-pub holds_gap : (coding : Coding) (bases : List ℕ) (keys : List (Option ℕ)) (old new : Contents) (rows : ℕ) → Holds coding bases old keys → IsPadded old new rows → Holds coding bases new (with_gap keys rows)
-holds_gap coding bases keys old new rows h p = record {
-  digits = stands-padded (width coding bases) (digit_bit coding bases) keys old new rows h.digits p;
-  small = EachKey-gap (λ key. key < product bases) keys rows h.small;
-}
-
-pub holds_joined : (coding : Coding) (bases : List ℕ) (keys more : List (Option ℕ)) (old other new : Contents) → Holds coding bases old keys → Holds coding bases other more → IsJoined old other new → Holds coding bases new (keys ++ more)
-holds_joined coding bases keys more old other new h o p = record {
-  digits = stands-joined (width coding bases) (digit_bit coding bases) keys more old other new h.digits o.digits p;
-  small = EachKey-append (λ key. key < product bases) keys more h.small o.small;
-}
 
 -- one base more
 pub product-more : (bases : List ℕ) (j : ℕ) → j < length bases → product (take (suc j) bases) ≡ get_or bases j 0 * product (take j bases)
@@ -94,12 +76,12 @@ bit_of coding (b ∷ bs) (suc j) value key l u =
 
 pub digit_is : (coding : Coding) (bases : List ℕ) (table : Contents) (keys : List (Option ℕ)) (j : ℕ) → AreBases bases → j < length bases → Holds coding bases table keys → HoldsDigit coding (get_or bases j 0) (λ key. key / product (take j bases) % get_or bases j 0) table.present (take (columns_of coding (get_or bases j 0)) (drop (width coding (take j bases)) table.columns)) keys
 digit_is coding bases table keys j a l h = record {
-  rows = h.digits.present;
+  rows = h.stands.present;
   column = λ value u.
       let in_width = width-within coding bases j l in
       get_or-take (columns_of coding (get_or bases j 0)) (drop (width coding (take j bases)) table.columns) value [] u
       ∙ get_or-drop (width coding (take j bases)) table.columns value []
-      ∙ h.digits.column (width coding (take j bases) + value) (omega (arith, in_width, u))
+      ∙ h.stands.column (width coding (take j bases) + value) (omega (arith, in_width, u))
       ∙ answers-same (digit_bit coding bases (width coding (take j bases) + value)) (λ key. is_coded coding value (key / product (take j bases) % get_or bases j 0)) keys (λ row key i q. bit_of coding bases j value key l u);
   small = λ key. mod-lt (key / product (take j bases)) (omega (arith, a.least j l));
 }
@@ -214,9 +196,18 @@ none_keys bits present all (Ok b) none e = λ keys h.
     e ∙ ap (λ xs. bitwise and_not xs xs) h ∙ answers-and_not (λ _. true) (λ _. true) keys ∙ answers-same (λ _. false) (λ _. all) keys (λ row key l q. sym none)
 none_keys bits present all (Err x) none e = tt
 
--- a bitmap of the slice
-pub slice_is : {B : Type 0} (bits : B → List Bool) (slices : List B) (j : ℕ) (slice : B) → j < length slices → slice ≡ get_or slices j slice → bits slice ≡ get_or (map bits slices) j []
-slice_is bits slices j slice l is = ap bits is ∙ sym (get_or-map bits slices j slice [] l)
+-- a column of a digit
+pub column_is : (columns : List (List Bool)) (from n value : ℕ) (column : List Bool) → value < n → column ≡ get_or columns (from + value) [] → column ≡ get_or (take n (drop from columns)) value []
+column_is columns from n value column l e = e ∙ sym (get_or-take n (drop from columns) value [] l ∙ get_or-drop from columns value [])
+
+pub columns_inside : (coding other : Coding) (base n : ℕ) → coding ≡ other → n ≡ columns_of coding base → n ≡ columns_of other base
+columns_inside coding other base n is e = e ∙ ap (λ c. columns_of c base) is
+
+-- an equality-coded digit has a column for each value
+pub below_equality : {B E : Type 0} (bits : B → List Bool) (present : List Bool) (columns : List (List Bool)) (coding : Coding) (base value : ℕ) (result : Result B E) → coding ≡ Equality → IfOk result (λ b. (keys : List (Option ℕ)) (digit : ℕ → ℕ) → HoldsDigit Equality base digit present (take base columns) keys → bits b ≡ answers (λ key. ltb (digit key) value) keys) → IfOk result (λ b. (keys : List (Option ℕ)) (digit : ℕ → ℕ) → HoldsDigit coding base digit present (take (columns_of coding base) columns) keys → bits b ≡ answers (λ key. ltb (digit key) value) keys)
+below_equality bits present columns coding base value (Ok b) is e = λ keys digit h.
+    e keys digit (subst (λ c. HoldsDigit c base digit present (take (columns_of c base) columns) keys) is h)
+below_equality bits present columns coding base value (Err x) is e = tt
 
 -- the rows of the values so far
 pub any_none : (keys : List (Option ℕ)) (digit : ℕ → ℕ) (answer : List Bool) → answer ≡ answers (λ _. false) keys → answer ≡ answers (λ key. ltb (digit key) 0) keys
@@ -236,12 +227,6 @@ any_more keys digit present columns n j rows column answer h l c r e =
 
 -- the rows below a value
 module _ {B E : Type 0} (bits : B → List Bool) (present : List Bool) (columns : List (List Bool)) (coding : Coding) (base value : ℕ) where
-  pub below_equality : (n : ℕ) (result : Result B E) → coding ≡ Equality → n ≡ columns_of coding base → IfOk result (λ b. (keys : List (Option ℕ)) (digit : ℕ → ℕ) → HoldsDigit Equality n digit present columns keys → bits b ≡ answers (λ key. ltb (digit key) value) keys) → IfOk result (λ b. (keys : List (Option ℕ)) (digit : ℕ → ℕ) → HoldsDigit coding base digit present columns keys → bits b ≡ answers (λ key. ltb (digit key) value) keys)
-  below_equality n (Ok b) is wide e = λ keys digit h.
-      let size : n ≡ base = wide ∙ ap (λ c. columns_of c base) is in
-      e keys digit (subst (λ c. HoldsDigit c n digit present columns keys) is (subst (λ m. HoldsDigit coding m digit present columns keys) (sym size) h))
-  below_equality n (Err x) is wide e = tt
-
   pub below_none : (result : Result B E) → value ≡ 0 → IfOk result (λ b. (keys : List (Option ℕ)) → present ≡ answers (λ _. true) keys → bits b ≡ answers (λ _. false) keys) → IfOk result (λ b. (keys : List (Option ℕ)) (digit : ℕ → ℕ) → HoldsDigit coding base digit present columns keys → bits b ≡ answers (λ key. ltb (digit key) value) keys)
   below_none (Ok b) zero_is e = λ keys digit h. e keys h.rows ∙ answers-same (λ _. false) (λ key. ltb (digit key) value) keys (λ row key l q. none (digit key))
     where
@@ -321,7 +306,7 @@ pub equal_end : (coding : Coding) (bases : List ℕ) (table : Contents) (keys : 
 equal_end coding bases table keys j key answer l u h e =
     e ∙ ap (λ bs. answers (λ k. eqb (k % product bs) (key % product bs)) keys) (take_all j bases l)
     ∙ answers-same (λ k. eqb (k % product bases) (key % product bases)) (λ k. eqb k key) keys (λ row k i q.
-    ap (λ n. eqb n (key % product bases)) (mod-eq_of_lt (h.small row k q)) ∙ ap (λ n. eqb k n) (mod-eq_of_lt u))
+    ap (λ n. eqb n (key % product bases)) (mod-eq_of_lt (h.each row k q)) ∙ ap (λ n. eqb k n) (mod-eq_of_lt u))
 
 pub before_init : (keys : List (Option ℕ)) (key : ℕ) (or_equal : Bool) (answer : List Bool) → answer ≡ answers (λ _. or_equal) keys → answer ≡ answers (λ k. is_before or_equal (k % 1) (key % 1)) keys
 before_init keys key true answer e = e ∙ answers-same (λ _. true) (λ k. is_before true (k % 1) (key % 1)) keys (λ row k l q. rw (mod-one k, mod-one key) refl)
@@ -337,7 +322,7 @@ pub before_end : (coding : Coding) (bases : List ℕ) (table : Contents) (keys :
 before_end coding bases table keys j key or_equal answer l u h e =
     e ∙ ap (λ bs. answers (λ k. is_before or_equal (k % product bs) (key % product bs)) keys) (take_all j bases l)
     ∙ answers-same (λ k. is_before or_equal (k % product bases) (key % product bases)) (λ k. is_before or_equal k key) keys (λ row k i q.
-    ap (λ n. is_before or_equal n (key % product bases)) (mod-eq_of_lt (h.small row k q)) ∙ ap (λ n. is_before or_equal k n) (mod-eq_of_lt u))
+    ap (λ n. is_before or_equal n (key % product bases)) (mod-eq_of_lt (h.each row k q)) ∙ ap (λ n. is_before or_equal k n) (mod-eq_of_lt u))
 
 -- the rest of a key, and the columns so far, after one digit more
 pub rest_more : (bases : List ℕ) (j key rest next : ℕ) → j < length bases → next ≡ suc j → rest ≡ key / product (take j bases) → rest / get_or bases j 0 ≡ key / product (take next bases)
@@ -371,7 +356,7 @@ module _ {B E : Type 0} (bits : B → List Bool) (coding : Coding) (bases : List
 
   pub ask_others : (p : ℕ → Bool) (present rows : List Bool) (result : Result B E) → ((k : ℕ) → not (p k) ≡ holds rel k key) → present ≡ table.present → ((keys : List (Option ℕ)) → Holds coding bases table keys → rows ≡ answers p keys) → IfOk result (λ b. bits b ≡ bitwise and_not present rows) → IfOk result (λ b. (keys : List (Option ℕ)) → Holds coding bases table keys → bits b ≡ answers (λ k. holds rel k key) keys)
   ask_others p present rows (Ok b) same t r e = λ keys h.
-      e ∙ ap (λ xs. bitwise and_not xs rows) (t ∙ h.digits.present) ∙ ap (λ xs. bitwise and_not (answers (λ _. true) keys) xs) (r keys h)
+      e ∙ ap (λ xs. bitwise and_not xs rows) (t ∙ h.stands.present) ∙ ap (λ xs. bitwise and_not (answers (λ _. true) keys) xs) (r keys h)
       ∙ answers-and_not (λ _. true) p keys ∙ answers-same (λ k. not (p k)) (λ k. holds rel k key) keys (λ row k l q. same k)
   ask_others p present rows (Err x) same t r e = tt
 
@@ -380,3 +365,85 @@ above n key = grind (arith, nat_tests)
 
 pub at_least : (n key : ℕ) → not (ltb n key) ≡ leb key n
 at_least n key = grind (arith, nat_tests)
+
+-- the columns of a digit in a word
+pub ones_from_bit : (at j : ℕ) → at < 64 → j < 64 → has_bit ((2 ^ 64 - 1) / 2 ^ at) (63 - j) ≡ leb at j
+ones_from_bit at j l u = elim (cases_lt j at) [
+  | inl less ↦
+      let past : leb at j ≡ false = grind (arith, nat_tests) in
+      ap (λ n. has_bit n (63 - j)) (ones_shr 64 at (omega arith)) ∙ ap (λ x. eqb x 1) (bit_at_ones_above (64 - at) (63 - j) (omega arith)) ∙ sym past
+  | inr more ↦
+      let reached : leb at j ≡ true = grind (arith, nat_tests) in
+      ap (λ n. has_bit n (63 - j)) (ones_shr 64 at (omega arith)) ∙ ap (λ x. eqb x 1) (bit_at_ones (64 - at) (63 - j) (omega arith)) ∙ sym reached
+]
+
+pub ones_from_none : (at j : ℕ) → 64 ≤ at → j < 64 → has_bit 0 (63 - j) ≡ leb at j
+ones_from_none at j l u =
+    let past : leb at j ≡ false = grind (arith, nat_tests) in
+    bit-none (63 - j) ∙ sym past
+
+-- which column ends a digit's run of ones
+abbrev pub cond_of : Coding → ℕ → ℕ → ℕ
+cond_of Equality one all = one
+cond_of Range one all = all
+
+pub between_columns : (coding : Coding) (start from count digit first end j a b : ℕ) → (coding ≡ Equality → digit < count) → first ≡ from + digit → end ≡ (cond_of coding (first + 1) (from + count)) → b < 2 ^ 64 → j < 64 → has_bit a (63 - j) ≡ leb (first - start) j → has_bit b (63 - j) ≡ leb (end - start) j → has_bit (bit_and a (bit_not w64 b)) (63 - j) ≡ (leb from (start + j) && ltb (start + j) (from + count) && is_coded coding (start + j - from) digit)
+between_columns coding start from count digit first end j a b w f e u l p q =
+    bit-and a (bit_not w64 b) (63 - j)
+    ∙ ap (λ x. x && has_bit (bit_not w64 b) (63 - j)) p
+    ∙ ap (λ x. leb (first - start) j && x) (bit-not b (63 - j) u (omega arith) ∙ ap not q)
+    ∙ ap (λ n. leb (first - start) j && not (leb (n - start) j)) e
+    ∙ ap (λ n. leb (n - start) j && not (leb (cond_of coding (n + 1) (from + count) - start) j)) f
+    ∙ by_coding coding w
+  where
+    by_coding : (coding : Coding) → (coding ≡ Equality → digit < count) → (leb (from + digit - start) j && not (leb (cond_of coding (from + digit + 1) (from + count) - start) j)) ≡ (leb from (start + j) && ltb (start + j) (from + count) && is_coded coding (start + j - from) digit)
+    by_coding Equality w = let h : digit < count = w refl in grind (arith, nat_tests)
+    by_coding Range w = grind (arith, nat_tests)
+
+pub digit_bit-past : (coding : Coding) (bases : List ℕ) (j key : ℕ) → width coding bases ≤ j → digit_bit coding bases j key ≡ false
+digit_bit-past coding [] j key l = refl
+digit_bit-past coding (b ∷ bs) j key l =
+    there (grind (arith, nat_tests)) ∙ digit_bit-past coding bs (j - columns_of coding b) (key / b) (omega arith)
+  where
+    there : ltb j (columns_of coding b) ≡ false → digit_bit coding (b ∷ bs) j key ≡ digit_bit coding bs (j - columns_of coding b) (key / b)
+    there later = rw later refl
+
+-- the columns of one digit more
+pub word_more : (coding : Coding) (bases : List ℕ) (k key from rest word part column next : ℕ) → k < length bases → next ≡ suc k → from ≡ width coding (take k bases) → rest ≡ key / product (take k bases) → has_bit word (63 - part) ≡ (ltb column from && digit_bit coding bases column key) → (more : ℕ) → has_bit more (63 - part) ≡ (leb from column && ltb column (from + columns_of coding (get_or bases k 0)) && is_coded coding (column - from) (rest % get_or bases k 0)) → has_bit (bit_or word more) (63 - part) ≡ (ltb column (from + columns_of coding (get_or bases k 0)) && digit_bit coding bases column key)
+word_more coding bases k key from rest word part column next l n f r w more m =
+    bit-or word more (63 - part) ∙ ap (λ x. x || has_bit more (63 - part)) w ∙ ap (λ x. (ltb column from && digit_bit coding bases column key) || x) m
+    ∙ elim (cases_lt column from) [
+      | inl less ↦
+          let yes_before : ltb column from ≡ true = grind (arith, nat_tests) in
+          let not_from : leb from column ≡ false = grind (arith, nat_tests) in
+          let yes_after : ltb column (from + columns_of coding (get_or bases k 0)) ≡ true = grind (arith, nat_tests) in
+          rw (yes_before, not_from, yes_after) (or_none (digit_bit coding bases column key))
+      | inr past ↦
+          let not_before : ltb column from ≡ false = grind (arith, nat_tests) in
+          let yes_from : leb from column ≡ true = grind (arith, nat_tests) in
+          rw (not_before, yes_from) (elim (cases_lt column (from + columns_of coding (get_or bases k 0))) [
+            | inl inside ↦
+                let in_digit : ltb column (from + columns_of coding (get_or bases k 0)) ≡ true = grind (arith, nat_tests) in
+                let back : width coding (take k bases) + (column - from) ≡ column = omega (arith, f) in
+                rw in_digit (ap (λ d. is_coded coding (column - from) (d % get_or bases k 0)) r
+                ∙ sym (bit_of coding bases k (column - from) key l (omega arith))
+                ∙ ap (λ i. digit_bit coding bases i key) back)
+            | inr outside ↦
+                let not_in : ltb column (from + columns_of coding (get_or bases k 0)) ≡ false = grind (arith, nat_tests) in
+                rw not_in refl
+          ])
+    ]
+  where
+    or_none : (x : Bool) → (x || false) ≡ x
+    or_none true = refl
+    or_none false = refl
+
+pub word_all : (coding : Coding) (bases : List ℕ) (k key from word part column : ℕ) → length bases ≤ k → from ≡ width coding (take k bases) → has_bit word (63 - part) ≡ (ltb column from && digit_bit coding bases column key) → has_bit word (63 - part) ≡ digit_bit coding bases column key
+word_all coding bases k key from word part column l f w =
+    w ∙ elim (cases_lt column from) [
+      | inl less ↦ let before : ltb column from ≡ true = grind (arith, nat_tests) in ap (λ x. x && digit_bit coding bases column key) before
+      | inr past ↦
+          let all : width coding bases ≤ column = omega (arith, f ∙ ap (width coding) (take_all k bases l)) in
+          let after : ltb column from ≡ false = grind (arith, nat_tests) in
+          ap (λ x. x && digit_bit coding bases column key) after ∙ sym (digit_bit-past coding bases column key all)
+    ]

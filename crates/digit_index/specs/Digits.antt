@@ -1,7 +1,7 @@
 -- Keys by their digits in mixed bases, the lowest digit first, and what a digit index stands for.
 use Rattle.std.specs.Prelude.{ℕ, ◌+◌, ◌-◌, ◌*◌, ◌/◌, ◌%◌, ◌<◌, ◌≤◌, Bool, true, false, List, [], ◌∷◌, length, Option, nat_eq, nat_lt, nat_le, if◌then◌else◌, slice_index, get_or, ◌≡◌}
-use Rattle.bits_law.specs.Keys.{answers, EachKey}
-use Rattle.bits_law.specs.Contents.{Contents, StandsFor}
+use Rattle.bits_law.specs.Keys.{answers}
+use Rattle.bits_law.specs.Contents.{Contents, HoldsKeys}
 use Rattle.digit_index.specs.declared.coding.Coding.{Coding}
 use Rattle.digit_index.specs.declared.coding.Coding.TheVariants.{Equality, Range}
 
@@ -38,10 +38,13 @@ digit_bit coding (base ∷ bases) j key =
     if nat_lt j (columns_of coding base) then is_coded coding j (key % base)
     else digit_bit coding bases (j - columns_of coding base) (key / base)
 
+-- a key is below the product of the bases
+abbrev pub IsBelow : List ℕ → ℕ → Type 0
+IsBelow bases key = key < product bases
+
 -- the columns are those of the keys' digits, and each key is below the product of the bases
-pub record Holds (coding : Coding) (bases : List ℕ) (table : Contents) (keys : List (Option ℕ)) : Type 0 where
-  pub digits : StandsFor (width coding bases) (digit_bit coding bases) keys table
-  pub small : EachKey (λ key. key < product bases) keys
+abbrev pub Holds : Coding → List ℕ → Contents → List (Option ℕ) → Type 0
+Holds coding bases table keys = HoldsKeys (width coding bases) (digit_bit coding bases) (IsBelow bases) table keys
 
 -- some columns are those of one digit of the keys
 pub record HoldsDigit (coding : Coding) (base : ℕ) (digit : ℕ → ℕ) (present : List Bool) (columns : List (List Bool)) (keys : List (Option ℕ)) : Type 0 where

@@ -1,4 +1,6 @@
-ghost use Rattle.std.specs.Prelude.{◌≡◌, ◌+◌, ◌≤◌, ◌*◌, length};
+ghost use Rattle.std.specs.Prelude.{◌≡◌, ℕ, ◌+◌, ◌-◌, ◌<◌, ◌≤◌, ◌*◌, ◌^◌, ◌&&◌, length, nat_le, nat_lt};
+ghost use Rattle.bits_law.specs.Numbers.{has_bit};
+ghost use Rattle.digit_index.specs.declared.coding.Coding.TheVariants.{Equality};
 ghost use Rattle.digit_index.specs.Digits.{AreBases, columns_of, is_coded, width, digit_bit};
 
 use crate::bases::Bases;
@@ -64,6 +66,49 @@ fn digit_bit(coding: Coding, bases: &Bases, column: usize, key: u64) -> bool
     false
 }
 
+/// The columns from `at` on among 64, the first column's bit highest.
+fn ones_from(at: usize) -> u64
+    ensures { (j : ℕ) → j < 64 → has_bit result (63 - j) ≡ nat_le at j }
+{
+    if at < 64 { u64::MAX >> at } else { 0 }
+}
+
+/// The columns of a digit among the 64 from `start` on, the first column's bit highest. The digit has `count` columns
+/// from `from` on.
+fn digit_part(coding: Coding, start: usize, from: usize, count: usize, digit: usize) -> u64
+    requires room { from + count ≤ 4096 }
+    requires small { digit ≤ 256 }
+    requires within { coding ≡ Equality → digit < count }
+    ensures { (j : ℕ) → j < 64 → has_bit result (63 - j) ≡ (nat_le from (start + j) && nat_lt (start + j) (from + count) && is_coded coding (start + j - from) digit) }
+{
+    let first = from + digit;
+    let end = match coding {
+        Coding::Equality => first + 1,
+        Coding::Range => from + count,
+    };
+    ones_from(first.saturating_sub(start)) & !ones_from(end.saturating_sub(start))
+}
+
+/// The columns of all digits among the 64 from 64 `part` on, the first column's bit highest.
+fn digit_word(coding: Coding, bases: &Bases, part: usize, key: u64) -> u64
+    requires { part < 2 ^ 57 }
+    ensures { (j : ℕ) → j < 64 → has_bit result (63 - j) ≡ digit_bit coding bases.now (64 * part + j) key }
+{
+    let bases = bases.as_slice();
+    let start = 64 * part;
+    let mut word = 0;
+    let mut from = 0;
+    let mut rest = key;
+    for k in 0..bases.len() {
+        let base = bases[k] as u64;
+        let count = columns_of(coding, bases[k]);
+        word |= digit_part(coding, start, from, count, (rest % base) as usize);
+        from += count;
+        rest /= base;
+    }
+    word
+}
+
 /// The bits that a key sets.
 #[derive(Drop)]
 pub(crate) struct DigitKey<'a> {
@@ -77,5 +122,9 @@ impl<'a> RowBits for DigitKey<'a> {
 
     fn bit(&self, column: usize) -> bool {
         digit_bit(self.coding, self.bases, column, self.key)
+    }
+
+    fn word(&self, part: usize) -> u64 {
+        digit_word(self.coding, self.bases, part, self.key)
     }
 }

@@ -1,8 +1,9 @@
-ghost use Rattle.std.specs.Prelude.{◌≡◌, ◌+◌, ◌-◌, ◌^◌, ◌<◌, ◌≤◌, ◌++◌, List, [], length, IfOk, OnOk, IfErr, Option, ℕ, nat_eq, nat_lt, nat_le, if◌then◌else◌, take, drop, map, get_or, slice_index, true};
+ghost use Rattle.std.specs.Prelude.{◌≡◌, ◌+◌, ◌-◌, ◌^◌, ◌<◌, ◌≤◌, ◌++◌, List, [], length, IfOk, OnOk, OnErr, IfErr, Option, ℕ, nat_eq, nat_lt, nat_le, if◌then◌else◌, true};
+ghost use Rattle.bits_law.specs.Bitwise.{bitwise, and_not};
 ghost use Rattle.bits_law.specs.Keys.{answers, with_gap, with_key};
 ghost use Rattle.bits_law.specs.Numbers.{holds};
 ghost use Rattle.bits_law.specs.Refusal.{refusal, rows_to};
-ghost use Rattle.digit_index.specs.Digits.{product, columns_of, width, Holds};
+ghost use Rattle.digit_index.specs.Digits.{product, width, Holds};
 
 use crate::bases::Bases;
 use crate::coding::{Coding, DigitKey, columns_of, width};
@@ -45,6 +46,27 @@ impl<B: Bits> DigitIndex<B> {
     }
 
     /// Puts a key at `row`, the rows between having none. `TooLong` comes exactly where there would be more than 2^40
+    /// rows. After a refusal the index is as before.
+    pub fn put(&mut self, row: u64, key: u64) -> Result<(), BitsEnd>
+        requires after { length self.old.table.present ≤ row }
+        requires small { key < product self.old.bases }
+        ensures coding { self.new.coding ≡ self.old.coding }
+        ensures bases { self.new.bases ≡ self.old.bases }
+        ensures keys { OnOk result ((keys : List (Option ℕ)) → Holds self.old.coding self.old.bases self.old.table keys → Holds self.new.coding self.new.bases self.new.table (with_key keys row key)) }
+        ensures rows { OnOk result (length self.new.table.present ≡ row + 1) }
+        ensures fits { OnOk result (row < 2 ^ 40) }
+        ensures end { IfErr result (λ e. e ≡ refusal (length self.old.table.present) (rows_to (length self.old.table.present) row)) }
+        ensures err { OnErr result (self.new.table ≡ self.old.table) }
+    {
+        let key = DigitKey {
+            key,
+            coding: self.coding,
+            bases: &self.bases,
+        };
+        self.table.put(row, &key)
+    }
+
+    /// Puts a key at `row`, the rows between having none. `TooLong` comes exactly where there would be more than 2^40
     /// rows.
     pub fn add(self, row: u64, key: u64) -> Result<Self, BitsEnd>
         requires after { length self.table.present ≤ row }
@@ -52,25 +74,13 @@ impl<B: Bits> DigitIndex<B> {
         ensures coding { IfOk result (λ i. i.coding ≡ self.coding) }
         ensures bases { IfOk result (λ i. i.bases ≡ self.bases) }
         ensures keys { IfOk result (λ i. (keys : List (Option ℕ)) → Holds self.coding self.bases self.table keys → Holds i.coding i.bases i.table (with_key keys row key)) }
+        ensures rows { IfOk result (λ i. length i.table.present ≡ row + 1) }
         ensures fits { OnOk result (row < 2 ^ 40) }
         ensures end { IfErr result (λ e. e ≡ refusal (length self.table.present) (rows_to (length self.table.present) row)) }
     {
-        let DigitIndex {
-            coding,
-            bases,
-            table,
-        } = self;
-        let key = DigitKey {
-            key,
-            coding,
-            bases: &bases,
-        };
-        let table = table.add(row, &key)?;
-        Ok(DigitIndex {
-            coding,
-            bases,
-            table,
-        })
+        let mut index = self;
+        index.put(row, key)?;
+        Ok(index)
     }
 
     /// Adds rows without a key up to `rows`. `TooLong` comes exactly where there would be more than 2^40 rows.
@@ -79,6 +89,7 @@ impl<B: Bits> DigitIndex<B> {
         ensures coding { IfOk result (λ i. i.coding ≡ self.coding) }
         ensures bases { IfOk result (λ i. i.bases ≡ self.bases) }
         ensures keys { IfOk result (λ i. (keys : List (Option ℕ)) → Holds self.coding self.bases self.table keys → Holds i.coding i.bases i.table (with_gap keys rows)) }
+        ensures rows { IfOk result (λ i. length i.table.present ≡ rows) }
         ensures fits { OnOk result (rows ≤ 2 ^ 40) }
         ensures end { IfErr result (λ e. e ≡ refusal (length self.table.present) (rows - length self.table.present)) }
     {
@@ -103,6 +114,7 @@ impl<B: Bits> DigitIndex<B> {
         ensures coding { IfOk result (λ i. i.coding ≡ self.coding) }
         ensures bases { IfOk result (λ i. i.bases ≡ self.bases) }
         ensures keys { IfOk result (λ i. (keys more : List (Option ℕ)) → Holds self.coding self.bases self.table keys → Holds self.coding self.bases other.now.table more → Holds i.coding i.bases i.table (keys ++ more)) }
+        ensures rows { IfOk result (λ i. length i.table.present ≡ length self.table.present + length other.now.table.present) }
         ensures fits { OnOk result (length self.table.present + length other.now.table.present ≤ 2 ^ 40) }
         ensures end { IfErr result (λ e. e ≡ refusal (length self.table.present) (length other.now.table.present)) }
     {
@@ -121,37 +133,35 @@ impl<B: Bits> DigitIndex<B> {
 
     /// The rows that have a key, as a copy.
     pub fn present(&self) -> Result<B, AllocError>
-        ensures { IfOk result (λ b. (keys : List (Option ℕ)) → Holds self.now.coding self.now.bases self.now.table keys → B.bits b ≡ answers (λ _. true) keys) }
+        ensures rows { IfOk result (λ b. length (B.bits b) ≡ length self.now.table.present) }
+        ensures keys { IfOk result (λ b. (keys : List (Option ℕ)) → Holds self.now.coding self.now.bases self.now.table keys → B.bits b ≡ answers (λ _. true) keys) }
     {
-        self.table.present().duplicate()
+        self.table.present()
     }
 
     /// The rows whose key stands in the relation `rel` to `key`.
     pub fn ask(&self, rel: Order, key: u64) -> Result<B, AllocError>
         requires { key < product self.now.bases }
-        ensures { IfOk result (λ b. (keys : List (Option ℕ)) → Holds self.now.coding self.now.bases self.now.table keys → B.bits b ≡ answers (λ k. holds rel k key) keys) }
+        ensures rows { IfOk result (λ b. length (B.bits b) ≡ length self.now.table.present) }
+        ensures keys { IfOk result (λ b. (keys : List (Option ℕ)) → Holds self.now.coding self.now.bases self.now.table keys → B.bits b ≡ answers (λ k. holds rel k key) keys) }
     {
-        let present = self.table.present();
         match rel {
             Order::Eq => self.same(key),
-            Order::Ne => present.and_not(&self.same(key)?),
+            Order::Ne => self.others(&self.same(key)?),
             Order::Lt => self.preceding(key, false),
             Order::Le => self.preceding(key, true),
-            Order::Gt => present.and_not(&self.preceding(key, true)?),
-            Order::Ge => present.and_not(&self.preceding(key, false)?),
+            Order::Gt => self.others(&self.preceding(key, true)?),
+            Order::Ge => self.others(&self.preceding(key, false)?),
         }
     }
 
-    /// The bitmaps of digit `j`, which begin at column `from`.
-    fn digit_columns(&self, j: usize, from: usize) -> &[B]
-        requires inside { j < length self.now.bases }
-        requires from { from ≡ width self.now.coding (take j self.now.bases) }
-        ensures value { map B.bits result.now ≡ take (columns_of self.now.coding (slice_index self.now.bases j)) (drop from self.now.table.columns) }
-        ensures wide { length result.now ≡ columns_of self.now.coding (slice_index self.now.bases j) }
-        ensures even { (i : ℕ) → i < length result.now → length (get_or (map B.bits result.now) i []) ≡ length self.now.table.present }
+    /// The rows that have a key and aren't among `rows`.
+    fn others(&self, rows: &B) -> Result<B, AllocError>
+        requires { length (B.bits rows.now) ≡ length self.now.table.present }
+        ensures rows { IfOk result (λ b. length (B.bits b) ≡ length self.now.table.present) }
+        ensures value { IfOk result (λ b. B.bits b ≡ bitwise and_not self.now.table.present (B.bits rows.now)) }
     {
-        let end = from + columns_of(self.coding, self.bases.as_slice()[j]);
-        &self.table.columns()[from..end]
+        self.table.present()?.and_not(rows)
     }
 
     /// The rows whose key is `key`.
@@ -160,16 +170,15 @@ impl<B: Bits> DigitIndex<B> {
         ensures rows { IfOk result (λ b. length (B.bits b) ≡ length self.now.table.present) }
         ensures keys { IfOk result (λ b. (keys : List (Option ℕ)) → Holds self.now.coding self.now.bases self.now.table keys → B.bits b ≡ answers (λ k. nat_eq k key) keys) }
     {
-        let present = self.table.present();
+        let present = self.table.present()?;
         let bases = self.bases.as_slice();
-        let mut rows = all_or_none(present, true)?;
+        let mut rows = all_or_none(&present, true)?;
         let mut rest = key;
         let mut from = 0;
         for j in 0..bases.len() {
             let base = bases[j];
             let value = (rest % base as u64) as usize;
-            let columns = self.digit_columns(j, from);
-            let here = equal(columns, present, self.coding, base, value)?;
+            let here = equal(&self.table, from, &present, self.coding, base, value)?;
             rows = rows.and(&here)?;
             rest /= base as u64;
             from += columns_of(self.coding, base);
@@ -183,16 +192,16 @@ impl<B: Bits> DigitIndex<B> {
         ensures rows { IfOk result (λ b. length (B.bits b) ≡ length self.now.table.present) }
         ensures keys { IfOk result (λ b. (keys : List (Option ℕ)) → Holds self.now.coding self.now.bases self.now.table keys → B.bits b ≡ answers (λ k. if or_equal then nat_le k key else nat_lt k key) keys) }
     {
-        let present = self.table.present();
+        let present = self.table.present()?;
         let bases = self.bases.as_slice();
-        let mut rows = all_or_none(present, or_equal)?;
+        let mut rows = all_or_none(&present, or_equal)?;
         let mut rest = key;
         let mut from = 0;
         for j in 0..bases.len() {
             let base = bases[j];
             let value = (rest % base as u64) as usize;
-            let columns = self.digit_columns(j, from);
-            rows = ordered(columns, present, self.coding, base, value, &rows)?;
+            let coding = self.coding;
+            rows = ordered(&self.table, from, &present, coding, base, value, &rows)?;
             rest /= base as u64;
             from += columns_of(self.coding, base);
         }

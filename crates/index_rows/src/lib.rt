@@ -1,4 +1,4 @@
-//! Worked rows of the indexes over bitmaps of runs: tests alone.
+//! Worked rows of the indexes over bitmaps of runs and of words: tests alone.
 #![tactic(auto)]
 
 #[cfg(test)]

@@ -11,9 +11,10 @@ use std::alloc::{AllocError, Global};
 use std::process::Abort;
 use std::test::Fail;
 use string_index::StringIndex;
+use word_bitmap::WordBitmap;
 
 /// The text of a bitmap's bits.
-fn shown(alloc: Global, bits: &RunsBitmap) -> Result<String, AllocError> {
+fn shown<B: Bits>(alloc: Global, bits: &B) -> Result<String, AllocError> {
     let mut text = String::new(alloc);
     for at in 0..bits.len() {
         text.push(if bits.get(at) { '1' } else { '0' })?;
@@ -22,9 +23,9 @@ fn shown(alloc: Global, bits: &RunsBitmap) -> Result<String, AllocError> {
 }
 
 /// The answer's bits are those of the text.
-fn check<R: Abort + AllocGlobal>(
+fn check<B: Bits, R: Abort + AllocGlobal>(
     rt: &R,
-    answer: Result<RunsBitmap, AllocError>,
+    answer: Result<B, AllocError>,
     text: &str,
 ) -> Result<(), AllocError> {
     let bits = answer?;
@@ -82,12 +83,12 @@ fn plain(alloc: Global, keys: &[Option<u64>], rel: Order, key: u64) -> Result<St
 }
 
 /// A slice index of `width` slices. No key is above `largest`.
-fn in_slices(
+fn in_slices<B: Bits>(
     alloc: Global,
     width: u8,
     largest: u64,
     keys: &[Option<u64>],
-) -> Result<SliceIndex<RunsBitmap>, BitsEnd>
+) -> Result<SliceIndex<B>, BitsEnd>
     requires some { 1 ≤ width }
     requires narrow { width ≤ 64 }
     requires small { largest < 2 ^ width }
@@ -105,9 +106,9 @@ fn in_slices(
 }
 
 /// The index has these present rows, and answers each question by the text.
-fn slices_say<R: Abort + AllocGlobal>(
+fn slices_say<B: Bits, R: Abort + AllocGlobal>(
     rt: &R,
-    index: &SliceIndex<RunsBitmap>,
+    index: &SliceIndex<B>,
     present: &str,
     asks: &[(Order, u64, &str)],
 ) -> Result<(), AllocError> {
@@ -119,9 +120,8 @@ fn slices_say<R: Abort + AllocGlobal>(
 }
 
 /// A row without a key is in no answer, and a relation with `e` takes the equal.
-#[test]
-fn numbers_are_compared_row_by_row(rt: HostRuntime) -> Result<(), Fail> {
-    let index = in_slices(rt.alloc(), 4, 15, &[Some(5), None, Some(9)])?;
+fn numbers_are_compared_row_by_row<B: Bits, R: Abort + AllocGlobal>(rt: &R) -> Result<(), BitsEnd> {
+    let index = in_slices::<B>(rt.alloc(), 4, 15, &[Some(5), None, Some(9)])?;
     let asks = [
         (Order::Eq, 5, "100"),
         (Order::Ne, 5, "001"),
@@ -130,32 +130,34 @@ fn numbers_are_compared_row_by_row(rt: HostRuntime) -> Result<(), Fail> {
         (Order::Gt, 5, "001"),
         (Order::Ge, 5, "101"),
     ];
-    slices_say(&rt, &index, "101", &asks)?;
-    let joined = in_slices(rt.alloc(), 4, 15, &[None])?.append(&index)?;
-    slices_say(&rt, &joined, "0101", &[(Order::Eq, 5, "0100")])?;
+    slices_say(rt, &index, "101", &asks)?;
+    let joined = in_slices::<B>(rt.alloc(), 4, 15, &[None])?.append(&index)?;
+    slices_say(rt, &joined, "0101", &[(Order::Eq, 5, "0100")])?;
     Ok(())
 }
 
-#[test]
-fn slices_answer_as_the_plain_relation(rt: HostRuntime) -> Result<(), Fail> {
-    let index = in_slices(rt.alloc(), 4, 15, &KEYS)?;
+fn slices_answer_as_the_plain_relation<B: Bits, R: Abort + AllocGlobal>(
+    rt: &R,
+) -> Result<(), BitsEnd> {
+    let index = in_slices::<B>(rt.alloc(), 4, 15, &KEYS)?;
     for rel in RELATIONS {
         for key in 0..16 {
             let text = plain(rt.alloc(), &KEYS, rel, key)?;
-            check(&rt, index.ask(rel, key), text.as_str())?;
+            check(rt, index.ask(rel, key), text.as_str())?;
         }
     }
     Ok(())
 }
 
-#[test]
-fn numbers_of_one_bit_and_of_64_are_compared(rt: HostRuntime) -> Result<(), Fail> {
-    let index = in_slices(rt.alloc(), 1, 1, &[Some(1), Some(0)])?;
+fn numbers_of_one_bit_and_of_64_are_compared<B: Bits, R: Abort + AllocGlobal>(
+    rt: &R,
+) -> Result<(), BitsEnd> {
+    let index = in_slices::<B>(rt.alloc(), 1, 1, &[Some(1), Some(0)])?;
     let asks = [(Order::Ge, 1, "10"), (Order::Lt, 2, "11")];
-    slices_say(&rt, &index, "11", &asks)?;
-    let index = in_slices(rt.alloc(), 64, u64::MAX, &[Some(0), Some(u64::MAX)])?;
+    slices_say(rt, &index, "11", &asks)?;
+    let index = in_slices::<B>(rt.alloc(), 64, u64::MAX, &[Some(0), Some(u64::MAX)])?;
     let asks = [(Order::Gt, 0, "01"), (Order::Lt, u64::MAX, "10")];
-    slices_say(&rt, &index, "11", &asks)?;
+    slices_say(rt, &index, "11", &asks)?;
     Ok(())
 }
 
@@ -174,13 +176,13 @@ fn bases(alloc: Global, count: usize, base: u16) -> Result<Bases, AllocError>
 }
 
 /// A digit index. No key is above `largest`.
-fn in_digits(
+fn in_digits<B: Bits>(
     alloc: Global,
     bases: Bases,
     coding: Coding,
     largest: u64,
     keys: &[Option<u64>],
-) -> Result<DigitIndex<RunsBitmap>, BitsEnd>
+) -> Result<DigitIndex<B>, BitsEnd>
     requires some { 1 ≤ length bases }
     requires small { largest < product bases }
     ensures bases { IfOk result (λ i. i.bases ≡ bases) }
@@ -198,9 +200,9 @@ fn in_digits(
 }
 
 /// The index has these present rows, and answers each question by the text. No key is above `largest`.
-fn digits_say<R: Abort + AllocGlobal>(
+fn digits_say<B: Bits, R: Abort + AllocGlobal>(
     rt: &R,
-    index: &DigitIndex<RunsBitmap>,
+    index: &DigitIndex<B>,
     largest: u64,
     present: &str,
     asks: &[(Order, u64, &str)],
@@ -214,52 +216,52 @@ fn digits_say<R: Abort + AllocGlobal>(
     Ok(())
 }
 
-#[test]
-fn digits_are_compared_row_by_row(rt: HostRuntime) -> Result<(), Fail> {
+fn digits_are_compared_row_by_row<B: Bits, R: Abort + AllocGlobal>(rt: &R) -> Result<(), BitsEnd> {
     let ports = [Some(53), Some(443), None, Some(53)];
     let two = bases(rt.alloc(), 2, 256)?;
-    let index = in_digits(rt.alloc(), two, Coding::Range, 65_535, &ports)?;
+    let index = in_digits::<B>(rt.alloc(), two, Coding::Range, 65_535, &ports)?;
     let asks = [(Order::Eq, 53, "1001"), (Order::Gt, 53, "0100")];
-    digits_say(&rt, &index, 65_535, "1101", &asks)?;
+    digits_say(rt, &index, 65_535, "1101", &asks)?;
     Ok(())
 }
 
-#[test]
-fn digits_join_behind_a_gap(rt: HostRuntime) -> Result<(), Fail> {
+fn digits_join_behind_a_gap<B: Bits, R: Abort + AllocGlobal>(rt: &R) -> Result<(), BitsEnd> {
     let two = bases(rt.alloc(), 2, 2)?;
-    let gap = in_digits(rt.alloc(), two, Coding::Equality, 3, &[None])?;
+    let gap = in_digits::<B>(rt.alloc(), two, Coding::Equality, 3, &[None])?;
     let two = bases(rt.alloc(), 2, 2)?;
-    let index = in_digits(rt.alloc(), two, Coding::Equality, 3, &[Some(3), Some(0)])?;
+    let index = in_digits::<B>(rt.alloc(), two, Coding::Equality, 3, &[Some(3), Some(0)])?;
     let asks = [(Order::Ne, 3, "001"), (Order::Le, 2, "001")];
-    digits_say(&rt, &gap.append(&index)?, 3, "011", &asks)?;
+    digits_say(rt, &gap.append(&index)?, 3, "011", &asks)?;
     Ok(())
 }
 
-#[test]
-fn digits_answer_as_the_plain_relation(rt: HostRuntime) -> Result<(), Fail> {
+fn digits_answer_as_the_plain_relation<B: Bits, R: Abort + AllocGlobal>(
+    rt: &R,
+) -> Result<(), BitsEnd> {
     for coding in [Coding::Equality, Coding::Range] {
-        let index = in_digits(rt.alloc(), bases(rt.alloc(), 2, 4)?, coding, 15, &KEYS)?;
+        let index = in_digits::<B>(rt.alloc(), bases(rt.alloc(), 2, 4)?, coding, 15, &KEYS)?;
         for rel in RELATIONS {
             for key in 0..16 {
                 let text = plain(rt.alloc(), &KEYS, rel, key)?;
-                check(&rt, index.ask(rel, key), text.as_str())?;
+                check(rt, index.ask(rel, key), text.as_str())?;
             }
         }
     }
     Ok(())
 }
 
-#[test]
-fn sixteen_digits_reach_the_largest_key(rt: HostRuntime) -> Result<(), Fail> {
+fn sixteen_digits_reach_the_largest_key<B: Bits, R: Abort + AllocGlobal>(
+    rt: &R,
+) -> Result<(), BitsEnd> {
     let keys = [Some(0), Some(u64::MAX)];
     let sixteen = bases(rt.alloc(), 16, 16)?;
-    let index = in_digits(rt.alloc(), sixteen, Coding::Range, u64::MAX, &keys)?;
+    let index = in_digits::<B>(rt.alloc(), sixteen, Coding::Range, u64::MAX, &keys)?;
     let asks = [(Order::Gt, 0, "01"), (Order::Lt, u64::MAX, "10")];
-    digits_say(&rt, &index, u64::MAX, "11", &asks)?;
+    digits_say(rt, &index, u64::MAX, "11", &asks)?;
     Ok(())
 }
 
-fn in_texts(alloc: Global, keys: &[Option<&[u8]>]) -> Result<StringIndex<RunsBitmap>, BitsEnd> {
+fn in_texts<B: Bits>(alloc: Global, keys: &[Option<&[u8]>]) -> Result<StringIndex<B>, BitsEnd> {
     let mut index = StringIndex::new(alloc)?;
     for (at, key) in keys.iter().enumerate() {
         if let Some(key) = key {
@@ -272,9 +274,9 @@ fn in_texts(alloc: Global, keys: &[Option<&[u8]>]) -> Result<StringIndex<RunsBit
 }
 
 /// The rows where each text is sure, and where it may be.
-fn texts_say<R: Abort + AllocGlobal>(
+fn texts_say<B: Bits, R: Abort + AllocGlobal>(
     rt: &R,
-    index: &StringIndex<RunsBitmap>,
+    index: &StringIndex<B>,
     asks: &[(&[u8], &str, &str)],
 ) -> Result<(), AllocError> {
     for (text, sure, maybe) in asks {
@@ -285,34 +287,34 @@ fn texts_say<R: Abort + AllocGlobal>(
     Ok(())
 }
 
-#[test]
-fn a_short_text_is_sure(rt: HostRuntime) -> Result<(), Fail> {
-    let gap = in_texts(rt.alloc(), &[None])?;
-    let index = gap.append(&in_texts(rt.alloc(), &[Some(b"ab"), Some(b"")])?)?;
-    check(&rt, index.present(), "011")?;
-    check(&rt, index.as_long(1), "010")?;
-    texts_say(&rt, &index, &[(b"ab", "010", "010")])?;
+fn a_short_text_is_sure<B: Bits, R: Abort + AllocGlobal>(rt: &R) -> Result<(), BitsEnd> {
+    let gap = in_texts::<B>(rt.alloc(), &[None])?;
+    let index = gap.append(&in_texts::<B>(rt.alloc(), &[Some(b"ab"), Some(b"")])?)?;
+    check(rt, index.present(), "011")?;
+    check(rt, index.as_long(1), "010")?;
+    texts_say(rt, &index, &[(b"ab", "010", "010")])?;
     Ok(())
 }
 
 /// Texts of 8, 9, 255 and 256 bytes, all of the letter a.
-#[test]
-fn texts_of_eight_bytes_are_sure_and_longer_ones_maybe(rt: HostRuntime) -> Result<(), Fail> {
+fn texts_of_eight_bytes_are_sure_and_longer_ones_maybe<B: Bits, R: Abort + AllocGlobal>(
+    rt: &R,
+) -> Result<(), BitsEnd> {
     let text = [b'a'; 256];
     let (a, b, c, d) = (&text[..8], &text[..9], &text[..255], &text[..]);
-    let index = in_texts(rt.alloc(), &[Some(a), Some(b), Some(c), Some(d)])?;
+    let index = in_texts::<B>(rt.alloc(), &[Some(a), Some(b), Some(c), Some(d)])?;
     let asks = [
         (a, "1000", "1000"),
         (b, "0000", "0100"),
         (c, "0000", "0011"),
         (d, "0000", "0011"),
     ];
-    texts_say(&rt, &index, &asks)?;
-    check(&rt, index.as_long(256), "0011")?;
+    texts_say(rt, &index, &asks)?;
+    check(rt, index.as_long(256), "0011")?;
     Ok(())
 }
 
-fn in_buckets(alloc: Global, keys: &[Option<u64>]) -> Result<SetIndex<RunsBitmap>, BitsEnd> {
+fn in_buckets<B: Bits>(alloc: Global, keys: &[Option<u64>]) -> Result<SetIndex<B>, BitsEnd> {
     let mut index = SetIndex::new(alloc)?;
     for (at, key) in keys.iter().enumerate() {
         if let Some(key) = key {
@@ -324,16 +326,15 @@ fn in_buckets(alloc: Global, keys: &[Option<u64>]) -> Result<SetIndex<RunsBitmap
     index.pad(rows)
 }
 
-#[test]
-fn a_bucket_is_taken_by_its_rows(rt: HostRuntime) -> Result<(), Fail> {
-    let gap = in_buckets(rt.alloc(), &[None])?;
-    let index = gap.append(&in_buckets(rt.alloc(), &[Some(1 << 3), None, Some(0)])?)?;
-    check(&rt, index.present(), "0101")?;
-    check(&rt, index.taken(3), "0100")?;
+fn a_bucket_is_taken_by_its_rows<B: Bits, R: Abort + AllocGlobal>(rt: &R) -> Result<(), BitsEnd> {
+    let gap = in_buckets::<B>(rt.alloc(), &[None])?;
+    let index = gap.append(&in_buckets::<B>(rt.alloc(), &[Some(1 << 3), None, Some(0)])?)?;
+    check(rt, index.present(), "0101")?;
+    check(rt, index.taken(3), "0100")?;
     Ok(())
 }
 
-fn in_addresses(alloc: Global, keys: &[Option<u128>]) -> Result<AddrIndex<RunsBitmap>, BitsEnd> {
+fn in_addresses<B: Bits>(alloc: Global, keys: &[Option<u128>]) -> Result<AddrIndex<B>, BitsEnd> {
     let mut index = AddrIndex::new(alloc)?;
     for (at, key) in keys.iter().enumerate() {
         if let Some(key) = key {
@@ -345,30 +346,26 @@ fn in_addresses(alloc: Global, keys: &[Option<u128>]) -> Result<AddrIndex<RunsBi
     index.pad(rows)
 }
 
-#[test]
-fn an_address_is_found_behind_a_gap(rt: HostRuntime) -> Result<(), Fail> {
-    let gap = in_addresses(rt.alloc(), &[None])?;
-    let index = gap.append(&in_addresses(rt.alloc(), &[Some(7), Some(8)])?)?;
-    check(&rt, index.present(), "011")?;
-    check(&rt, index.equal(7), "010")?;
+fn an_address_is_found_behind_a_gap<B: Bits, R: Abort + AllocGlobal>(
+    rt: &R,
+) -> Result<(), BitsEnd> {
+    let gap = in_addresses::<B>(rt.alloc(), &[None])?;
+    let index = gap.append(&in_addresses::<B>(rt.alloc(), &[Some(7), Some(8)])?)?;
+    check(rt, index.present(), "011")?;
+    check(rt, index.equal(7), "010")?;
     Ok(())
 }
 
-#[test]
-fn an_address_lies_within_a_prefix(rt: HostRuntime) -> Result<(), Fail> {
-    let index = in_addresses(rt.alloc(), &[Some(0x0a00_0001), None, Some(0x0a01_0001)])?;
-    check(&rt, index.within(0x0a00_0000, 104), "101")?;
-    check(&rt, index.within(0x0a01_0000, 112), "001")?;
-    check(&rt, index.within(0, 0), "101")?;
+fn an_address_lies_within_a_prefix<B: Bits, R: Abort + AllocGlobal>(rt: &R) -> Result<(), BitsEnd> {
+    let index = in_addresses::<B>(rt.alloc(), &[Some(0x0a00_0001), None, Some(0x0a01_0001)])?;
+    check(rt, index.within(0x0a00_0000, 104), "101")?;
+    check(rt, index.within(0x0a01_0000, 112), "001")?;
+    check(rt, index.within(0, 0), "101")?;
     Ok(())
 }
 
 /// The index with one more subnet.
-fn with_net(
-    index: NetIndex<RunsBitmap>,
-    base: u128,
-    bits: u8,
-) -> Result<NetIndex<RunsBitmap>, BitsEnd>
+fn with_net<B: Bits>(index: NetIndex<B>, base: u128, bits: u8) -> Result<NetIndex<B>, BitsEnd>
     requires narrow { bits ≤ 128 }
     requires masked { base % 2 ^ (128 - bits) ≡ 0 }
 {
@@ -376,30 +373,171 @@ fn with_net(
     index.add(row, base, bits)
 }
 
-#[test]
-fn subnets_lie_within_and_hold_each_other(rt: HostRuntime) -> Result<(), Fail> {
-    let index = with_net(NetIndex::new(rt.alloc())?, 0x0a00_0000, 104)?;
-    let index = with_net(index, 0x0a01_0000, 112)?;
-    check(&rt, index.within(0x0a00_0000, 104), "11")?;
-    check(&rt, index.covers(0x0a02_0000, 112), "10")?;
-    check(&rt, index.equal(0x0a01_0000, 112), "01")?;
+fn subnets_lie_within_and_hold_each_other<B: Bits, R: Abort + AllocGlobal>(
+    rt: &R,
+) -> Result<(), BitsEnd> {
+    let index = with_net::<B>(NetIndex::new(rt.alloc())?, 0x0a00_0000, 104)?;
+    let index = with_net::<B>(index, 0x0a01_0000, 112)?;
+    check(rt, index.within(0x0a00_0000, 104), "11")?;
+    check(rt, index.covers(0x0a02_0000, 112), "10")?;
+    check(rt, index.equal(0x0a01_0000, 112), "01")?;
     Ok(())
 }
 
 /// All addresses, and one alone.
-fn all_and_one(alloc: Global) -> Result<NetIndex<RunsBitmap>, BitsEnd> {
-    let gap: NetIndex<RunsBitmap> = NetIndex::new(alloc)?;
+fn all_and_one<B: Bits>(alloc: Global) -> Result<NetIndex<B>, BitsEnd> {
+    let gap: NetIndex<B> = NetIndex::new(alloc)?;
     let rows = gap.rows().max(1);
-    let index = with_net(with_net(NetIndex::new(alloc)?, 0, 0)?, 5, 128)?;
+    let index = with_net::<B>(with_net::<B>(NetIndex::new(alloc)?, 0, 0)?, 5, 128)?;
     gap.pad(rows)?.append(&index)
 }
 
+fn the_whole_and_one_address_are_subnets<B: Bits, R: Abort + AllocGlobal>(
+    rt: &R,
+) -> Result<(), BitsEnd> {
+    let index = all_and_one::<B>(rt.alloc())?;
+    check(rt, index.present(), "011")?;
+    check(rt, index.within(0, 0), "011")?;
+    check(rt, index.covers(5, 128), "011")?;
+    check(rt, index.equal(5, 128), "001")?;
+    Ok(())
+}
+
+fn each_of_numbers_by_slices<B: Bits, R: Abort + AllocGlobal>(rt: &R) -> Result<(), BitsEnd> {
+    numbers_are_compared_row_by_row::<B, R>(rt)?;
+    slices_answer_as_the_plain_relation::<B, R>(rt)?;
+    numbers_of_one_bit_and_of_64_are_compared::<B, R>(rt)
+}
+
 #[test]
-fn the_whole_and_one_address_are_subnets(rt: HostRuntime) -> Result<(), Fail> {
-    let index = all_and_one(rt.alloc())?;
-    check(&rt, index.present(), "011")?;
-    check(&rt, index.within(0, 0), "011")?;
-    check(&rt, index.covers(5, 128), "011")?;
-    check(&rt, index.equal(5, 128), "001")?;
+fn numbers_by_slices(rt: HostRuntime) -> Result<(), Fail> {
+    each_of_numbers_by_slices::<RunsBitmap, HostRuntime>(&rt)?;
+    each_of_numbers_by_slices::<WordBitmap, HostRuntime>(&rt)?;
+    Ok(())
+}
+
+fn each_of_numbers_by_digits<B: Bits, R: Abort + AllocGlobal>(rt: &R) -> Result<(), BitsEnd> {
+    digits_are_compared_row_by_row::<B, R>(rt)?;
+    digits_join_behind_a_gap::<B, R>(rt)?;
+    digits_answer_as_the_plain_relation::<B, R>(rt)?;
+    sixteen_digits_reach_the_largest_key::<B, R>(rt)
+}
+
+#[test]
+fn numbers_by_digits(rt: HostRuntime) -> Result<(), Fail> {
+    each_of_numbers_by_digits::<RunsBitmap, HostRuntime>(&rt)?;
+    each_of_numbers_by_digits::<WordBitmap, HostRuntime>(&rt)?;
+    Ok(())
+}
+
+fn each_of_texts<B: Bits, R: Abort + AllocGlobal>(rt: &R) -> Result<(), BitsEnd> {
+    a_short_text_is_sure::<B, R>(rt)?;
+    texts_of_eight_bytes_are_sure_and_longer_ones_maybe::<B, R>(rt)
+}
+
+#[test]
+fn texts(rt: HostRuntime) -> Result<(), Fail> {
+    each_of_texts::<RunsBitmap, HostRuntime>(&rt)?;
+    each_of_texts::<WordBitmap, HostRuntime>(&rt)?;
+    Ok(())
+}
+
+fn each_of_containers_and_addresses<B: Bits, R: Abort + AllocGlobal>(
+    rt: &R,
+) -> Result<(), BitsEnd> {
+    a_bucket_is_taken_by_its_rows::<B, R>(rt)?;
+    an_address_is_found_behind_a_gap::<B, R>(rt)?;
+    an_address_lies_within_a_prefix::<B, R>(rt)
+}
+
+#[test]
+fn containers_and_addresses(rt: HostRuntime) -> Result<(), Fail> {
+    each_of_containers_and_addresses::<RunsBitmap, HostRuntime>(&rt)?;
+    each_of_containers_and_addresses::<WordBitmap, HostRuntime>(&rt)?;
+    Ok(())
+}
+
+fn each_of_subnets<B: Bits, R: Abort + AllocGlobal>(rt: &R) -> Result<(), BitsEnd> {
+    subnets_lie_within_and_hold_each_other::<B, R>(rt)?;
+    the_whole_and_one_address_are_subnets::<B, R>(rt)
+}
+
+#[test]
+fn subnets(rt: HostRuntime) -> Result<(), Fail> {
+    each_of_subnets::<RunsBitmap, HostRuntime>(&rt)?;
+    each_of_subnets::<WordBitmap, HostRuntime>(&rt)?;
+    Ok(())
+}
+
+/// The key of a row: none at the first row of every second block, at the last row of each, and at every seventh.
+fn key_at(row: u64) -> Option<u64> {
+    if row % 128 == 0 || row % 64 == 63 || row % 7 == 3 {
+        None
+    } else {
+        Some(row % 1_000 * 37 % 16)
+    }
+}
+
+/// A slice index of `rows` rows, whose keys are those from row `from` on.
+fn tabled<B: Bits>(alloc: Global, from: u64, rows: u64) -> Result<SliceIndex<B>, BitsEnd>
+    requires start { from ≤ 2 ^ 20 }
+    requires few { rows ≤ 2 ^ 20 }
+    ensures { IfOk result (λ i. i.width ≡ 4) }
+{
+    let mut index = SliceIndex::new(alloc, 4)?;
+    for at in 0..rows {
+        if let Some(key) = key_at(from + at) {
+            let row = index.rows().max(at);
+            index.put(row, key.min(15))?;
+        }
+    }
+    let rows = index.rows().max(rows);
+    index.pad(rows)
+}
+
+/// The index has `rows` rows, and each relation to 9 is answered row by row.
+fn answers_by_row<B: Bits, R: Abort + AllocGlobal>(
+    rt: &R,
+    index: &SliceIndex<B>,
+    rows: u64,
+) -> Result<(), AllocError> {
+    for rel in RELATIONS {
+        let bits = index.ask(rel, 9)?;
+        assert_eq!(rt; bits.len(), rows);
+        for row in 0..bits.len() {
+            let meets = match key_at(row) {
+                Some(key) => related(key, rel, 9),
+                None => false,
+            };
+            assert_eq!(rt; bits.get(row), meets);
+        }
+    }
+    Ok(())
+}
+
+/// Numbers of rows at each side of a block's end.
+fn blocks_at_their_ends<B: Bits, R: Abort + AllocGlobal>(rt: &R) -> Result<(), BitsEnd> {
+    for rows in [0, 1, 63, 64, 65, 127, 128, 1_000] {
+        let index = tabled::<B>(rt.alloc(), 0, rows)?;
+        answers_by_row(rt, &index, rows)?;
+    }
+    Ok(())
+}
+
+/// Rows that are added behind each number of rows in the last block.
+fn blocks_at_each_remainder<B: Bits, R: Abort + AllocGlobal>(rt: &R) -> Result<(), BitsEnd> {
+    for rows in 64..128 {
+        let more = tabled::<B>(rt.alloc(), rows, 70)?;
+        let index = tabled::<B>(rt.alloc(), 0, rows)?.append(&more)?;
+        answers_by_row(rt, &index, rows + 70)?;
+    }
+    Ok(())
+}
+
+#[test]
+fn blocks_of_rows(rt: HostRuntime) -> Result<(), Fail> {
+    blocks_at_their_ends::<RunsBitmap, HostRuntime>(&rt)?;
+    blocks_at_their_ends::<WordBitmap, HostRuntime>(&rt)?;
+    blocks_at_each_remainder::<WordBitmap, HostRuntime>(&rt)?;
     Ok(())
 }

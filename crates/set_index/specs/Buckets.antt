@@ -1,8 +1,7 @@
 -- What a set index stands for.
-use Rattle.std.specs.Prelude.{◌^◌, ◌<◌, ℕ, Bool, List, Option}
-use Rattle.bits_law.specs.Keys.{EachKey}
+use Rattle.std.specs.Prelude.{◌-◌, ◌^◌, ◌<◌, ℕ, Bool, List, Option}
 use Rattle.bits_law.specs.Numbers.{has_bit}
-use Rattle.bits_law.specs.Contents.{Contents, StandsFor}
+use Rattle.bits_law.specs.Contents.{Contents, HoldsKeys}
 
 -- whether a key takes a bucket: one bit for each
 abbrev pub takes : ℕ → ℕ → Bool
@@ -12,7 +11,10 @@ takes bucket key = has_bit key bucket
 abbrev pub IsBuckets : ℕ → Type 0
 IsBuckets key = key < 2 ^ 64
 
--- column j has the rows whose key takes bucket j
-pub record Holds (table : Contents) (keys : List (Option ℕ)) : Type 0 where
-  pub stands : StandsFor 64 takes keys table
-  pub each : EachKey IsBuckets keys
+-- column j is bucket 63 - j
+abbrev pub bucket_bit : ℕ → ℕ → Bool
+bucket_bit j key = takes (63 - j) key
+
+-- column j has the rows whose key takes bucket 63 - j
+abbrev pub Holds : Contents → List (Option ℕ) → Type 0
+Holds table keys = HoldsKeys 64 bucket_bit IsBuckets table keys

@@ -1,10 +1,10 @@
-ghost use Rattle.std.specs.Prelude.{◌≡◌, ◌+◌, ◌-◌, ◌^◌, ◌<◌, ◌≤◌, ◌++◌, List, [], length, IfOk, OnOk, IfErr, Option, ℕ, pos, ◌+ℤ◌, true};
+ghost use Rattle.std.specs.Prelude.{◌≡◌, ◌+◌, ◌-◌, ◌^◌, ◌<◌, ◌≤◌, ◌++◌, List, [], length, IfOk, OnOk, OnErr, IfErr, Option, ℕ, pos, ◌+ℤ◌, true};
 ghost use Rattle.bits_law.specs.Keys.{answers, with_gap, with_key};
 ghost use Rattle.bits_law.specs.Numbers.{holds};
 ghost use Rattle.bits_law.specs.Refusal.{refusal, rows_to};
 ghost use Rattle.slice_index.specs.Slices.{Holds};
 
-use bits_law::{Bits, BitsEnd, Order, RowBits, Table, slices_ask};
+use bits_law::{Bits, BitsEnd, Order, RowBits, Table};
 use std::alloc::{AllocError, Global};
 
 /// A key of a slice index of `width` slices.
@@ -12,19 +12,27 @@ use std::alloc::{AllocError, Global};
 struct SliceKey {
     key: u64,
     width: u8,
+    ghost some: { 1 ≤ width },
     ghost narrow: { width ≤ 64 },
 }
 
 impl RowBits for SliceKey {
+    ghost use Rattle.std.specs.Prelude.{◌&&◌, nat_lt};
     ghost use Rattle.slice_index.specs.Slices.{slice_bit};
 
-    ghost bit = { λ k j. slice_bit k.width j k.key };
+    ghost bit = { λ k j. nat_lt j k.width && slice_bit k.width j k.key };
 
     fn bit(&self, column: usize) -> bool {
-        let at = (self.width as usize)
-            .saturating_sub(1)
-            .saturating_sub(column);
-        self.key >> at & 1 == 1
+        let width = self.width as usize;
+        column < width && self.key >> (width - 1 - column) & 1 == 1
+    }
+
+    fn word(&self, part: usize) -> u64 {
+        if part == 0 {
+            self.key << (64 - self.width)
+        } else {
+            0
+        }
     }
 }
 
@@ -62,21 +70,38 @@ impl<B: Bits> SliceIndex<B> {
     }
 
     /// Puts a key at `row`, the rows between having none. `TooLong` comes exactly where there would be more than 2^40
+    /// rows. After a refusal the index is as before.
+    pub fn put(&mut self, row: u64, key: u64) -> Result<(), BitsEnd>
+        requires after { length self.old.table.present ≤ row }
+        requires small { key < 2 ^ self.old.width }
+        ensures width { self.new.width ≡ self.old.width }
+        ensures keys { OnOk result ((keys : List (Option ℕ)) → Holds self.old.width self.old.table keys → Holds self.new.width self.new.table (with_key keys row key)) }
+        ensures rows { OnOk result (length self.new.table.present ≡ row + 1) }
+        ensures fits { OnOk result (row < 2 ^ 40) }
+        ensures end { IfErr result (λ e. e ≡ refusal (length self.old.table.present) (rows_to (length self.old.table.present) row)) }
+        ensures err { OnErr result (self.new.table ≡ self.old.table) }
+    {
+        let key = SliceKey {
+            key,
+            width: self.width,
+        };
+        self.table.put(row, &key)
+    }
+
+    /// Puts a key at `row`, the rows between having none. `TooLong` comes exactly where there would be more than 2^40
     /// rows.
     pub fn add(self, row: u64, key: u64) -> Result<Self, BitsEnd>
         requires after { length self.table.present ≤ row }
         requires small { key < 2 ^ self.width }
         ensures width { IfOk result (λ i. i.width ≡ self.width) }
         ensures keys { IfOk result (λ i. (keys : List (Option ℕ)) → Holds self.width self.table keys → Holds i.width i.table (with_key keys row key)) }
+        ensures rows { IfOk result (λ i. length i.table.present ≡ row + 1) }
         ensures fits { OnOk result (row < 2 ^ 40) }
         ensures end { IfErr result (λ e. e ≡ refusal (length self.table.present) (rows_to (length self.table.present) row)) }
     {
-        let SliceIndex { width, table } = self;
-        let key = SliceKey { key, width };
-        Ok(SliceIndex {
-            width,
-            table: table.add(row, &key)?,
-        })
+        let mut index = self;
+        index.put(row, key)?;
+        Ok(index)
     }
 
     /// Adds rows without a key up to `rows`. `TooLong` comes exactly where there would be more than 2^40 rows.
@@ -84,6 +109,7 @@ impl<B: Bits> SliceIndex<B> {
         requires { length self.table.present ≤ rows }
         ensures width { IfOk result (λ i. i.width ≡ self.width) }
         ensures keys { IfOk result (λ i. (keys : List (Option ℕ)) → Holds self.width self.table keys → Holds i.width i.table (with_gap keys rows)) }
+        ensures rows { IfOk result (λ i. length i.table.present ≡ rows) }
         ensures fits { OnOk result (rows ≤ 2 ^ 40) }
         ensures end { IfErr result (λ e. e ≡ refusal (length self.table.present) (rows - length self.table.present)) }
     {
@@ -100,6 +126,7 @@ impl<B: Bits> SliceIndex<B> {
         requires { other.now.width ≡ self.width }
         ensures width { IfOk result (λ i. i.width ≡ self.width) }
         ensures keys { IfOk result (λ i. (keys more : List (Option ℕ)) → Holds self.width self.table keys → Holds self.width other.now.table more → Holds i.width i.table (keys ++ more)) }
+        ensures rows { IfOk result (λ i. length i.table.present ≡ length self.table.present + length other.now.table.present) }
         ensures fits { OnOk result (length self.table.present + length other.now.table.present ≤ 2 ^ 40) }
         ensures end { IfErr result (λ e. e ≡ refusal (length self.table.present) (length other.now.table.present)) }
     {
@@ -112,17 +139,18 @@ impl<B: Bits> SliceIndex<B> {
 
     /// The rows that have a key, as a copy.
     pub fn present(&self) -> Result<B, AllocError>
-        ensures { IfOk result (λ b. (keys : List (Option ℕ)) → Holds self.now.width self.now.table keys → B.bits b ≡ answers (λ _. true) keys) }
+        ensures rows { IfOk result (λ b. length (B.bits b) ≡ length self.now.table.present) }
+        ensures keys { IfOk result (λ b. (keys : List (Option ℕ)) → Holds self.now.width self.now.table keys → B.bits b ≡ answers (λ _. true) keys) }
     {
-        self.table.present().duplicate()
+        self.table.present()
     }
 
     /// The rows whose key stands in the relation `rel` to `key`.
     pub fn ask(&self, rel: Order, key: u64) -> Result<B, AllocError>
-        ensures { IfOk result (λ b. (keys : List (Option ℕ)) → Holds self.now.width self.now.table keys → B.bits b ≡ answers (λ k. holds rel k key) keys) }
+        ensures rows { IfOk result (λ b. length (B.bits b) ≡ length self.now.table.present) }
+        ensures keys { IfOk result (λ b. (keys : List (Option ℕ)) → Holds self.now.width self.now.table keys → B.bits b ≡ answers (λ k. holds rel k key) keys) }
     {
-        let table = &self.table;
-        slices_ask(table.alloc(), table.columns(), table.present(), rel, key)
+        self.table.ask(0, self.width as usize, rel, key)
     }
 }
 

@@ -1,62 +1,69 @@
--- How a string index grows, and what it answers.
-use Rattle.std.proofs.Common.{◌≡◌, ℕ, zero, suc, ◌+◌, ◌-◌, ◌*◌, ◌/◌, ◌%◌, ◌^◌, ◌<◌, ◌≤◌, min, Bool, true, false, eqb, leb, ◌&&◌, List, [], ◌∷◌, ◌++◌, length, get_or, take, drop, map, Option, None, Some, Result, Ok, Err, IfOk, refl, ap, sym, ◌∙◌, subst, arith}
-use Rattle.std.proofs.Math.Nat.{div-one, mod-eq_of_lt}
-use Rattle.std.proofs.lemmas.Grind.{common_steps}
-use Rattle.bits_law.specs.Keys.{answers, with_gap, with_key, EachKey}
+-- What a string index answers.
+use Rattle.std.proofs.Common.{◌≡◌, ℕ, suc, ◌+◌, ◌-◌, ◌*◌, ◌/◌, ◌%◌, ◌^◌, ◌<◌, ◌≤◌, Bool, true, false, eqb, leb, ◌&&◌, List, [], length, get_or, take, drop, Option, Result, Ok, Err, IfOk, refl, ap, sym, ◌∙◌, inl, inr, arith}
+use Rattle.std.proofs.Math.Nat.{div-one, mod-eq_of_lt, pow-le-pow_right}
+use Rattle.std.proofs.lemmas.Bool.{cases_lt}
+use Rattle.std.proofs.lemmas.Nat.{pow-add}
+use Rattle.std.proofs.lemmas.Nat.Bits.{bit_at_cat_low, bit_at_cat_high}
+use Rattle.bits_law.specs.Keys.{answers}
 use Rattle.bits_law.specs.Numbers.{number_at, holds, has_bit, IsAnswer}
-use Rattle.bits_law.specs.Contents.{Contents, StandsFor, IsPlaced, IsPadded, IsJoined}
+use Rattle.bits_law.specs.Contents.{Contents}
 use Rattle.bits_law.specs.declared.slices.Order.{Order}
 use Rattle.bits_law.specs.declared.slices.Order.TheVariants.{Eq, Ge}
-use Rattle.bits_law.proofs.AnswerLemmas.{asked, number_at_key, EachKey-gap, EachKey-key, EachKey-append, asked_slices, length-answers, answers-same, answers-and_not}
-use Rattle.bits_law.proofs.TableLemmas.{stands-new, stands-placed, stands-padded, stands-joined}
-use Rattle.std.proofs.Common.{slice_index, ltb, cond, not}
+use Rattle.bits_law.proofs.AnswerLemmas.{asked_slices, answers-same, answers-and_not}
+use Rattle.std.proofs.Common.{cond, not}
 use Rattle.bits_law.specs.Bitwise.{bitwise, and_not}
-use Rattle.std.proofs.lemmas.Bool.Decides.{nat_tests}
-use Rattle.string_index.specs.Texts.{short_length, text_bit, agree, same_start, IsText, Holds}
+use Rattle.string_index.specs.Texts.{short_length, text_unit, text_bit, agree, same_start, Holds}
 
-pub holds_new : (table : Contents) → table.present ≡ [] → length table.columns ≡ 72 → ((j : ℕ) → j < 72 → get_or table.columns j [] ≡ []) → Holds table []
-holds_new table p w c = record { stands = stands-new 72 text_bit table p w c; each = λ row key e. cc }
-
-pub holds_key : (keys : List (Option (List ℕ))) (old new : Contents) (row : ℕ) (key : (List ℕ)) → IsText key → Holds old keys → IsPlaced old new row (λ j. text_bit j key) → Holds new (with_key keys row key)
-holds_key keys old new row key l h p = record {
-  stands = stands-placed 72 text_bit keys old new row key _ (λ j u. refl) h.stands p;
-  each = EachKey-key IsText keys row key h.each l;
-}
-
-pub holds_gap : (keys : List (Option (List ℕ))) (old new : Contents) (rows : ℕ) → Holds old keys → IsPadded old new rows → Holds new (with_gap keys rows)
-holds_gap keys old new rows h p = record {
-  stands = stands-padded 72 text_bit keys old new rows h.stands p;
-  each = EachKey-gap IsText keys rows h.each;
-}
-
-pub holds_joined : (keys more : List (Option (List ℕ))) (old other new : Contents) → Holds old keys → Holds other more → IsJoined old other new → Holds new (keys ++ more)
-holds_joined keys more old other new h o p = record {
-  stands = stands-joined 72 text_bit keys more old other new h.stands o.stands p;
-  each = EachKey-append IsText keys more h.each o.each;
-}
-
-pub holds_rows : (keys : List (Option (List ℕ))) (table : Contents) → Holds table keys → length table.present ≡ length keys
-holds_rows keys table h = ap length h.stands.present ∙ length-answers (λ _. true) keys
+-- the eight columns of a unit
+unit_bits : (keys : List (Option (List ℕ))) (table : Contents) (unit j : ℕ) → unit < 9 → j < 8 → Holds table keys → get_or table.columns (8 * unit + j) [] ≡ answers (λ key. eqb (text_unit unit key / 2 ^ (0 + (8 - 1 - j)) % 2) 1) keys
+unit_bits keys table unit j w u h =
+    let which : (8 * unit + j) / 8 ≡ unit = omega arith in
+    let place : 7 - (8 * unit + j) % 8 ≡ 0 + (8 - 1 - j) = omega arith in
+    h.stands.column (8 * unit + j) (omega arith)
+    ∙ answers-same (text_bit (8 * unit + j)) (λ key. eqb (text_unit unit key / 2 ^ (0 + (8 - 1 - j)) % 2) 1) keys (λ row key l e.
+    ap (λ n. eqb (text_unit n key / 2 ^ (7 - (8 * unit + j) % 8) % 2) 1) which ∙ ap (λ i. eqb (text_unit unit key / 2 ^ i % 2) 1) place)
 
 -- the eight columns of the length, and those of a byte
 pub length_bits : (keys : List (Option (List ℕ))) (table : Contents) (j : ℕ) → j < 8 → Holds table keys → get_or table.columns (0 + j) [] ≡ answers (λ key. eqb (short_length key / 2 ^ (0 + (8 - 1 - j)) % 2) 1) keys
 length_bits keys table j u h =
-    let at : 0 + j ≡ j = omega arith in
-    let low : 7 - j ≡ 0 + (8 - 1 - j) = omega arith in
-    ap (λ i. get_or table.columns i []) at ∙ h.stands.column j (omega arith)
-    ∙ answers-same (text_bit j) (λ key. eqb (short_length key / 2 ^ (0 + (8 - 1 - j)) % 2) 1) keys (λ row key l e.
-    let yes : ltb j 8 ≡ true = grind (arith, nat_tests) in
-    rw yes (ap (λ i. eqb (short_length key / 2 ^ i % 2) 1) low))
+    let at : 0 + j ≡ 8 * 0 + j = omega arith in
+    ap (λ i. get_or table.columns i []) at ∙ unit_bits keys table 0 j (omega arith) u h
 
 pub byte_bits : (keys : List (Option (List ℕ))) (table : Contents) (at j : ℕ) → at < 8 → j < 8 → Holds table keys → get_or table.columns (8 + 8 * at + j) [] ≡ answers (λ key. eqb (get_or key at 0 / 2 ^ (0 + (8 - 1 - j)) % 2) 1) keys
 byte_bits keys table at j w u h =
-    let low : 7 - j ≡ 0 + (8 - 1 - j) = omega arith in
-    h.stands.column (8 + 8 * at + j) (omega arith)
-    ∙ answers-same (text_bit (8 + 8 * at + j)) (λ key. eqb (get_or key at 0 / 2 ^ (0 + (8 - 1 - j)) % 2) 1) keys (λ row key l e.
-    let no : ltb (8 + 8 * at + j) 8 ≡ false = grind (arith, nat_tests) in
-    let which : (8 + 8 * at + j) / 8 - 1 ≡ at = omega arith in
-    let place : (8 + 8 * at + j) % 8 ≡ j = omega arith in
-    rw (no, which, place) (ap (λ i. eqb (get_or key at 0 / 2 ^ i % 2) 1) low))
+    let place : 8 + 8 * at + j ≡ 8 * suc at + j = omega arith in
+    ap (λ i. get_or table.columns i []) place ∙ unit_bits keys table (suc at) j (omega arith) u h
+
+-- eight units in a word, the first one highest
+pub unit_more_small : (word unit k : ℕ) → word < 2 ^ (8 * k) → unit < 256 → k < 8 → (word * 256 + unit < 2 ^ (8 * (k + 1))) × (word * 256 + unit < 2 ^ 64)
+unit_more_small word unit k l u v =
+    let more : 8 * k + 8 ≡ 8 * (k + 1) = omega arith in
+    let power : 2 ^ (8 * (k + 1)) ≡ 2 ^ (8 * k) * 256 = ap (λ i. 2 ^ i) (sym more) ∙ pow-add 2 (8 * k) 8 in
+    let top : 2 ^ (8 * (k + 1)) ≤ 2 ^ 64 = pow_le (8 * (k + 1)) 64 (omega arith) in
+    (omega (arith, power), omega (arith, power, top))
+  where
+    pow_le : (i j : ℕ) → i ≤ j → 2 ^ i ≤ 2 ^ j
+    pow_le i j h = pow-le-pow_right (omega arith) h
+
+pub unit_more : (text : List ℕ) (part word unit k j : ℕ) → unit < 256 → unit ≡ text_unit (8 * part + k) text → ((j : ℕ) → j < 8 * k → has_bit word (8 * k - 1 - j) ≡ has_bit (text_unit (8 * part + j / 8) text) (7 - j % 8)) → j < 8 * (k + 1) → has_bit (word * 256 + unit) (8 * (k + 1) - 1 - j) ≡ has_bit (text_unit (8 * part + j / 8) text) (7 - j % 8)
+unit_more text part word unit k j u is before l = elim (cases_lt j (8 * k)) [
+  | inl less ↦
+      let up : 8 * (k + 1) - 1 - j - 8 ≡ 8 * k - 1 - j = omega arith in
+      ap (λ x. eqb x 1) (bit_at_cat_high word 8 unit (8 * (k + 1) - 1 - j) u (omega arith))
+      ∙ ap (has_bit word) up ∙ before j less
+  | inr more ↦
+      let low : 8 * (k + 1) - 1 - j ≡ 7 - j % 8 = omega arith in
+      let which : 8 * part + k ≡ 8 * part + j / 8 = omega arith in
+      ap (λ x. eqb x 1) (bit_at_cat_low word 8 unit (8 * (k + 1) - 1 - j) (omega arith))
+      ∙ ap (has_bit unit) low ∙ ap (λ n. has_bit n (7 - j % 8)) (is ∙ ap (λ i. text_unit i text) which)
+]
+
+pub unit_all : (text : List ℕ) (part word k j : ℕ) → k ≡ 8 → j < 64 → ((j : ℕ) → j < 8 * k → has_bit word (8 * k - 1 - j) ≡ has_bit (text_unit (8 * part + j / 8) text) (7 - j % 8)) → has_bit word (63 - j) ≡ text_bit (64 * part + j) text
+unit_all text part word k j e l h =
+    let at : 63 - j ≡ 8 * k - 1 - j = omega arith in
+    let which : 8 * part + j / 8 ≡ (64 * part + j) / 8 = omega arith in
+    let place : 7 - j % 8 ≡ 7 - (64 * part + j) % 8 = omega arith in
+    ap (has_bit word) at ∙ h j (omega arith) ∙ ap (λ i. has_bit (text_unit i text) (7 - j % 8)) which ∙ ap (has_bit (text_unit ((64 * part + j) / 8) text)) place
 
 -- a byte is the number of its eight bits
 byte_is : (n : ℕ) → n < 256 → n / 2 ^ 0 % 2 ^ 8 ≡ n
@@ -72,9 +79,9 @@ asked_byte keys table at key p answer among u w h e a =
     asked_slices keys table.columns (8 + 8 * at) 0 8 (λ text. get_or text at 0) p (λ n. eqb n key) answer among (omega (arith, w)) (λ j v. byte_bits keys table at j u v h) e a
     ∙ answers-same (λ text. p text && eqb (get_or text at 0 / 2 ^ 0 % 2 ^ 8) key) (λ text. p text && eqb (get_or text at 0) key) keys (λ row text l q. ap (λ n. p text && eqb n key) (byte_is (get_or text at 0) (h.each row text q at)))
 
-pub long_ok : {B E : Type 0} (bits : B → List Bool) (table : Contents) (key : ℕ) (among : List Bool) (result : Result B E) → length table.columns ≡ 72 → among ≡ table.present → IfOk result (λ b. IsAnswer (bits b) among (λ row. leb key (number_at (take 8 (drop 0 table.columns)) row))) → IfOk result (λ b. (keys : List (Option (List ℕ))) → Holds table keys → bits b ≡ answers (λ text. leb key (short_length text)) keys)
-long_ok bits table key among (Ok b) w e a = λ keys h. asked_length keys table Ge key (bits b) w h (subst (λ xs. IsAnswer (bits b) xs (λ row. leb key (number_at (take 8 (drop 0 table.columns)) row))) e a)
-long_ok bits table key among (Err x) w e a = tt
+pub long_ok : {B E : Type 0} (bits : B → List Bool) (table : Contents) (key : ℕ) (result : Result B E) → length table.columns ≡ 72 → IfOk result (λ b. IsAnswer (bits b) table.present (λ row. leb key (number_at (take 8 (drop 0 table.columns)) row))) → IfOk result (λ b. (keys : List (Option (List ℕ))) → Holds table keys → bits b ≡ answers (λ text. leb key (short_length text)) keys)
+long_ok bits table key (Ok b) w a = λ keys h. asked_length keys table Ge key (bits b) w h a
+long_ok bits table key (Err x) w a = tt
 
 and_true : (b : Bool) → b ≡ (b && true)
 and_true true = refl

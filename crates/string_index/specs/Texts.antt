@@ -1,17 +1,20 @@
 -- What a string index keeps of a text.
-use Rattle.std.specs.Prelude.{ℕ, zero, suc, ◌+◌, ◌-◌, ◌*◌, ◌/◌, ◌%◌, ◌^◌, ◌<◌, min, Bool, true, ◌&&◌, List, length, Option, nat_eq, nat_lt, nat_le, if◌then◌else◌, slice_index}
-use Rattle.bits_law.specs.Keys.{EachKey}
+use Rattle.std.specs.Prelude.{ℕ, zero, suc, ◌-◌, ◌/◌, ◌%◌, ◌<◌, min, Bool, true, ◌&&◌, List, length, Option, nat_eq, slice_index}
 use Rattle.bits_law.specs.Numbers.{has_bit}
-use Rattle.bits_law.specs.Contents.{Contents, StandsFor}
+use Rattle.bits_law.specs.Contents.{Contents, HoldsKeys}
 
 -- a text's length, up to 255
 abbrev pub short_length : List ℕ → ℕ
 short_length text = min (length text) 255
 
--- column j: the length's bits first, then those of the first eight bytes, the highest bit of each first; a byte past
--- the end is 0
+-- what the columns are read from, eight at a time: the length first, then the bytes; a byte past the end is 0
+abbrev pub text_unit : ℕ → List ℕ → ℕ
+text_unit zero text = short_length text
+text_unit (suc at) text = slice_index text at
+
+-- column j: a bit of unit j / 8, the highest first
 abbrev pub text_bit : ℕ → List ℕ → Bool
-text_bit j text = if nat_lt j 8 then has_bit (short_length text) (7 - j) else has_bit (slice_index text (j / 8 - 1)) (7 - j % 8)
+text_bit j text = has_bit (text_unit (j / 8) text) (7 - j % 8)
 
 -- whether the first `n` bytes agree, where a byte past the end is 0
 abbrev pub agree : ℕ → List ℕ → List ℕ → Bool
@@ -27,6 +30,5 @@ abbrev pub IsText : List ℕ → Type 0
 IsText text = (k : ℕ) → slice_index text k < 256
 
 -- the columns are those of the texts
-pub record Holds (table : Contents) (keys : List (Option (List ℕ))) : Type 0 where
-  pub stands : StandsFor 72 text_bit keys table
-  pub each : EachKey IsText keys
+abbrev pub Holds : Contents → List (Option (List ℕ)) → Type 0
+Holds table keys = HoldsKeys 72 text_bit IsText table keys

@@ -8,9 +8,10 @@ use Rattle.std.proofs.Math.Seq.{get_or-append_seam}
 use Rattle.std.proofs.lemmas.Nat.{shr-shr, shr_below, shr_le}
 use Rattle.std.proofs.lemmas.Nat.Bits.{bit_at-trailing_zeros, bit_at_above, bit_at-zero}
 use Rattle.std.proofs.lemmas.Option.{slice_get_within}
-use Rattle.bits_law.specs.Bitwise.{IsNextOne, IsClearFrom}
-use Rattle.word_bitmap.specs.Words.{bits_below, spelled}
-use Rattle.word_bitmap.proofs.WordLemmas.{bit_is, length_spelled, length_below}
+use Rattle.bits_law.specs.Bitwise.{IsNextOne, IsClearFrom, bits_below}
+use Rattle.word_bitmap.specs.Words.{spelled}
+use Rattle.bits_law.proofs.WordBits.{length_below}
+use Rattle.word_bitmap.proofs.WordLemmas.{bit_is, length_spelled}
 
 length_all : (ws : List ℕ) (last n : ℕ) → length (spelled ws ++ bits_below last n) ≡ 64 * length ws + n
 length_all ws last n =

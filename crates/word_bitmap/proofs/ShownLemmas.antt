@@ -1,9 +1,11 @@
 -- The bits that whole words and an unfinished one stand for.
 use Rattle.std.proofs.Common.{◌≡◌, ◌+◌, ◌*◌, length, arith}
 use Rattle.std.proofs.lemmas.List.{length-append}
-use Rattle.word_bitmap.specs.Words.{bits_below, spelled, words_from, shown, IsSound}
+use Rattle.bits_law.specs.Bitwise.{bits_below}
+use Rattle.word_bitmap.specs.Words.{spelled, words_from, shown, IsSound}
 use Rattle.word_bitmap.specs.declared.words.Words.{Words}
-use Rattle.word_bitmap.proofs.WordLemmas.{length_below, length_spelled}
+use Rattle.bits_law.proofs.WordBits.{length_below}
+use Rattle.word_bitmap.proofs.WordLemmas.{length_spelled}
 use Rattle.word_bitmap.proofs.PieceLemmas.{length_words}
 
 pub length_shown : (w : Words) → IsSound w → length (shown w) ≡ 64 * w.full + w.held

@@ -1,6 +1,7 @@
 -- The bits of words, computed.
 use Rattle.std.proofs.Common.{◌≡◌, true, false, [], ◌∷◌, refl}
-use Rattle.word_bitmap.specs.Words.{bits_below, words_from}
+use Rattle.bits_law.specs.Bitwise.{bits_below}
+use Rattle.word_bitmap.specs.Words.{words_from}
 
 -- 6 is 110 in binary, and its lowest bit comes first; bits past the number are left out
 six_in_two_and_four : (bits_below 6 2 ≡ false ∷ true ∷ []) × (bits_below 6 4 ≡ false ∷ true ∷ true ∷ false ∷ [])

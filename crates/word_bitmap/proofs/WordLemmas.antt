@@ -5,7 +5,7 @@ use Rattle.std.specs.Int.{bit_at}
 use Rattle.std.proofs.lemmas.Bool.{cases_lt}
 use Rattle.std.proofs.lemmas.Nat.{shr-shr, shr_split, shl_whole, div-mul-add, mod-mul-add, pow-add, shr_below, mod-pow-add}
 use Rattle.std.proofs.Math.Nat.{mod-eq_of_lt, div-eq_of_lt, mul-le-mul_right, pow-le-pow_right, mod-one}
-use Rattle.std.proofs.lemmas.Nat.Bits.{bit_at_cat_low, bit_at_and, bit_at_or, bit_at_xor, bit_at_ones, bit_at-lt, bit_at-zero, bit_at-suc, bit_at_lowest}
+use Rattle.std.proofs.lemmas.Nat.Bits.{bit_at_cat_low, bit_at_and, bit_at_or, bit_at_xor, bit_at_ones, bit_at-lt, bit_at-zero}
 use Rattle.std.proofs.lemmas.List.{append_assoc, append-nil, length-append, length-replicate, ext_get_or, get_or_append_left, get_or-append_right, get_or-replicate, replicate-append-replicate}
 use Rattle.std.specs.Int.RustNames.{count_ones}
 use Rattle.std.specs.List.{count_by, slice_get}
@@ -13,26 +13,12 @@ use Rattle.std.proofs.lemmas.List.Sums.{sum_by-append, count_by-le-length}
 use Rattle.std.proofs.lemmas.Simd.{ones-mask_l}
 use Rattle.std.specs.Simd.Lanes.{mask_l}
 use Rattle.std.proofs.lemmas.Option.{slice_get-get_or}
-use Rattle.bits_law.specs.Bitwise.{bitwise}
+use Rattle.bits_law.specs.Bitwise.{bitwise, bits_below}
+use Rattle.bits_law.proofs.WordBits.{length_below, get_below}
 use Rattle.bits_law.proofs.BitwiseLemmas.{length-bitwise, get_or-bitwise, bitwise-append}
-use Rattle.word_bitmap.specs.Words.{bits_below, spelled, joins, word_of}
+use Rattle.word_bitmap.specs.Words.{spelled, joins, word_of}
 use Rattle.word_bitmap.specs.declared.combine.Ones.{Ones}
 use Rattle.word_bitmap.specs.declared.combine.Ones.TheVariants.{OfBoth, OfEither, OfFirstAlone, OfNotFirst}
-
-pub length_below : (w n : ℕ) → length (bits_below w n) ≡ n
-unfolding bits_below
-length_below w zero = refl
-length_below w (suc n) = let h = length_below (w / 2) n in omega (arith, h)
-
-pub below_none : (w : ℕ) → bits_below w 0 ≡ []
-unfolding bits_below
-below_none w = refl
-
-pub get_below : (w n i : ℕ) → i < n → get_or (bits_below w n) i false ≡ eqb (bit_at w i) 1
-unfolding bits_below
-get_below w zero i l = absurd (omega arith)
-get_below w (suc n) zero l = ap (λ x. eqb x 1) (sym (bit_at_lowest w))
-get_below w (suc n) (suc i) l = get_below (w / 2) n i (omega arith) ∙ ap (λ x. eqb x 1) (sym (bit_at-suc w i))
 
 -- words
 pub spelled-append : (ws vs : List ℕ) → spelled (ws ++ vs) ≡ spelled ws ++ spelled vs

@@ -1,15 +1,10 @@
 -- Words of 64 bits, and the bits that they stand for.
-use Rattle.std.specs.Prelude.{◌≡◌, ℕ, zero, suc, ◌+◌, ◌-◌, ◌*◌, ◌/◌, ◌%◌, ◌^◌, ◌<◌, ◌≤◌, Bool, not, ◌&&◌, ◌||◌, List, [], ◌∷◌, ◌++◌, replicate, nat_eq, bit_and, bit_or, bit_xor}
-use Rattle.bits_law.specs.Bitwise.{and_not}
+use Rattle.std.specs.Prelude.{◌≡◌, ℕ, ◌+◌, ◌-◌, ◌*◌, ◌^◌, ◌<◌, ◌≤◌, Bool, not, ◌&&◌, ◌||◌, List, [], ◌∷◌, ◌++◌, replicate, bit_and, bit_or, bit_xor}
+use Rattle.bits_law.specs.Bitwise.{and_not, bits_below}
 use Rattle.word_bitmap.specs.declared.piece.Piece.{Piece}
 use Rattle.word_bitmap.specs.declared.words.Words.{Words}
 use Rattle.word_bitmap.specs.declared.combine.Ones.{Ones}
 use Rattle.word_bitmap.specs.declared.combine.Ones.TheVariants.{OfBoth, OfEither, OfFirstAlone, OfNotFirst}
-
--- the `n` lowest bits of a word, the lowest first
-unfoldable pub bits_below : ℕ → ℕ → List Bool
-bits_below w zero = []
-bits_below w (suc n) = nat_eq (w % 2) 1 ∷ bits_below (w / 2) n
 
 -- the bits of words
 abbrev pub spelled : List ℕ → List Bool

@@ -1,6 +1,6 @@
 ghost use Rattle.std.specs.Prelude.{◌≡◌, ◌+◌, ◌^◌, ◌<◌, ◌≤◌, ◌++◌, length, OnOk, OnErr, IfErr};
+ghost use Rattle.bits_law.specs.Bitwise.{bits_below};
 ghost use Rattle.bits_law.specs.Refusal.{refusal};
-ghost use Rattle.word_bitmap.specs.Words.{bits_below};
 
 use crate::combine::Ones;
 use crate::words;
@@ -25,27 +25,6 @@ impl Model for WordBitmap {
     ghost view = { λ b. shown b.words };
 
     ghost invariant = { λ b. IsSound b.words };
-}
-
-impl WordBitmap {
-    /// Appends the `n` lowest bits of a word, the lowest first; `n` is from 1 to 64. `TooLong` comes exactly where the
-    /// length would pass 2^40. After a refusal the bits are as before.
-    pub fn push_word(&mut self, word: u64, n: u64) -> Result<(), BitsEnd>
-        requires some { 0 < n }
-        requires wide { n ≤ 64 }
-        ensures ok { OnOk result (self.new ≡ self.old ++ bits_below word n) }
-        ensures fits { OnOk result (length self.old + n ≤ 2 ^ 40) }
-        ensures end { IfErr result (λ e. e ≡ refusal (length self.old) n) }
-        ensures err { OnErr result (self.new ≡ self.old) }
-    {
-        let have = self.words.len();
-        if n > LONGEST - have {
-            return Err(BitsEnd::TooLong { have, more: n });
-        }
-        self.words.pieces.reserve(1)?;
-        self.words.put(words::low(word, n), n);
-        Ok(())
-    }
 }
 
 impl Bits for WordBitmap {
@@ -77,6 +56,24 @@ impl Bits for WordBitmap {
         }
         self.words.pieces.reserve(3)?;
         self.words.extend(bit, n);
+        Ok(())
+    }
+
+    /// After a refusal the bits are as before.
+    fn push_word(&mut self, word: u64, n: u64) -> Result<(), BitsEnd>
+        requires some { 0 < n }
+        requires wide { n ≤ 64 }
+        ensures ok { OnOk result (self.new ≡ self.old ++ bits_below word n) }
+        ensures fits { OnOk result (length self.old + n ≤ 2 ^ 40) }
+        ensures end { IfErr result (λ e. e ≡ refusal (length self.old) n) }
+        ensures err { OnErr result (self.new ≡ self.old) }
+    {
+        let have = self.words.len();
+        if n > LONGEST - have {
+            return Err(BitsEnd::TooLong { have, more: n });
+        }
+        self.words.pieces.reserve(1)?;
+        self.words.put(words::low(word, n), n);
         Ok(())
     }
 

@@ -1,6 +1,6 @@
 ghost use Rattle.std.specs.Prelude.{◌≡◌, ◌+◌, ◌-◌, ◌*◌, ◌/◌, ◌^◌, ◌<◌, ◌≤◌, ◌++◌, ◌∷◌, [], replicate, IfOk, OnOk, OnErr, if◌then◌else◌, ◌%◌, vec_len, vec_capacity, length, get_or, count_by, MatchOption, List, Bool};
-ghost use Rattle.bits_law.specs.Bitwise.{bitwise, IsNextOne, IsClearFrom};
-ghost use Rattle.word_bitmap.specs.Words.{IsSound, shown, bits_below, spelled, words_from, joins};
+ghost use Rattle.bits_law.specs.Bitwise.{bitwise, bits_below, IsNextOne, IsClearFrom};
+ghost use Rattle.word_bitmap.specs.Words.{IsSound, shown, spelled, words_from, joins};
 
 use crate::combine::Ones;
 use crate::edits;

@@ -1,4 +1,4 @@
-use Rattle.std.proofs.Common.{◌≡◌, ℕ, List, Option, length, map, nat_lt}
+use Rattle.std.proofs.Common.{◌≡◌, ℕ, List, Option, length, take, drop, nat_lt}
 use Rattle.bits_law.specs.Keys.{answers}
 use Rattle.digit_index.specs.Digits.{HoldsDigit}
 use Rattle.digit_index.specs.declared.coding.Coding.TheVariants.{Equality}
@@ -10,5 +10,5 @@ invariant-loop-j g l =
     let bits = g.B.Bits.bits in
     record {
       even : length (bits l.rows) ≡ length (bits l.present);
-      keys : (keys : List (Option ℕ)) (digit : ℕ → ℕ) → HoldsDigit Equality (length l.columns) digit (bits l.present) (map bits l.columns) keys → bits l.rows ≡ answers (λ key. nat_lt (digit key) l.j) keys;
+      keys : (keys : List (Option ℕ)) (digit : ℕ → ℕ) → HoldsDigit Equality l.base digit (bits l.present) (take l.base (drop l.from l.table.columns)) keys → bits l.rows ≡ answers (λ key. nat_lt (digit key) l.j) keys;
     }

@@ -7,7 +7,7 @@ use Rattle.address_index.proofs.net.NetIndex.covers.Goals as goal
 
 pub loop-at-init : goal.loop-at-init
 loop-at-init g c =
-    let all = c.in_ok-agree.ensures ∙ c.present.ensures in
+    let all = c.in_ok-agree.ensures in
     let even = ap length all ∙ c.args.self.now.even in
     record {
       agree_even = even;
@@ -30,9 +30,7 @@ loop-at-preserved g c =
       rows = λ keys h. covers_more keys table lengths c.args.base c.loop-at.at _ _ _ _ h (agree_more keys table lengths c.args.base c.loop-at.at _ _ inside h (c.loop-at.invariant.agree keys h) c.in_ok-agree-2.ensures) c.in_ok-here.ensures (c.loop-at.invariant.rows keys h) c.in_ok-rows-2.ensures;
     }
 
-pub returns : goal.returns
-returns g c = record {
-  keys = λ keys h.
-      let end : c.loop-at.at ≡ c.args.bits = omega arith in
-      subst (λ n. g.B.Bits.bits c.loop-at.rows ≡ answers (net_covers c.args.base n) keys) end (c.loop-at.invariant.rows keys h);
-}
+pub returns-clause-keys : goal.returns-clause-keys
+returns-clause-keys g c = λ keys h.
+    let end : c.loop-at.at ≡ c.args.bits = omega arith in
+    subst (λ n. g.B.Bits.bits c.loop-at.rows ≡ answers (net_covers c.args.base n) keys) end (c.loop-at.invariant.rows keys h)

@@ -1,16 +1,16 @@
-use Rattle.std.proofs.Common.{◌≡◌, ◌+◌, ◌<◌, refl, suc, length, get_or, take, drop, ap, sym, ◌∙◌, subst, arith}
+use Rattle.std.proofs.Common.{◌≡◌, ◌+◌, ◌<◌, refl, suc, length, ap, sym, ◌∙◌, subst, arith}
 use Rattle.std.proofs.Math.Nat.{div-one}
 use Rattle.bits_law.proofs.BitwiseLemmas.{length-bitwise}
-use Rattle.digit_index.specs.Digits.{AreBases, columns_of, product, Holds}
-use Rattle.digit_index.proofs.DigitLemmas.{digit_part, equal_init, equal_step, equal_end, rest_more, from_more, from-most}
+use Rattle.digit_index.specs.Digits.{AreBases, product, width, Holds}
+use Rattle.digit_index.proofs.DigitLemmas.{digit_part, equal_init, equal_step, equal_end, rest_more, from_more, from-most, width-within}
 use Rattle.digit_index.proofs.index.DigitIndex.same.Goals as goal
 
 pub loop-j-init : goal.loop-j-init
 loop-j-init g c = record {
   from = refl;
   rest = sym (div-one c.args.key);
-  even = c.in_ok-rows.ensures.rows ∙ ap length c.present-present.ensures;
-  keys = λ keys h. equal_init keys c.args.key _ (c.in_ok-rows.ensures.keys keys (c.present-present.ensures ∙ h.digits.present));
+  even = c.in_ok-rows.ensures.rows ∙ ap length c.in_ok-present.ensures;
+  keys = λ keys h. equal_init keys c.args.key _ (c.in_ok-rows.ensures.keys keys (c.in_ok-present.ensures ∙ h.stands.present));
 }
 
 pub overflow_add-from : goal.overflow_add-from
@@ -28,14 +28,13 @@ loop-j-preserved g c =
     let v = c.as_slice-bases.ensures.value in
     let are = subst AreBases (sym v) c.as_slice-bases.ensures.are in
     let next : j + 1 ≡ suc j = omega arith in
-    let columns = c.digit_columns-columns.ensures.value ∙ ap (λ bs. take (columns_of coding (get_or bs j 0)) (drop c.loop-j.from table.columns)) (sym v) in
-    let here_even = c.in_ok-here.ensures.rows ∙ ap length c.present-present.ensures in
+    let here_even = c.in_ok-here.ensures.rows ∙ ap length c.in_ok-present.ensures in
     record {
       from = ap (λ n. c.loop-j.from + n) c.columns_of-from.ensures ∙ from_more coding bases j c.loop-j.from (j + 1) c.loop-j-test.true next c.loop-j.invariant.from;
       rest = rest_more bases j c.args.key c.loop-j.rest (j + 1) c.loop-j-test.true next c.loop-j.invariant.rest;
       even = ap length c.in_ok-rows-2.ensures ∙ length-bitwise _ _ _ (c.loop-j.invariant.even ∙ sym here_even) ∙ c.loop-j.invariant.even;
       keys = λ keys h. equal_step bases keys j c.args.key c.loop-j.rest (j + 1) _ _ _ are c.loop-j-test.true next c.loop-j.invariant.rest (c.loop-j.invariant.keys keys h)
-          (c.in_ok-here.ensures.keys keys _ (digit_part coding bases table keys j c.loop-j.from _ _ are c.loop-j-test.true c.loop-j.invariant.from c.present-present.ensures columns (subst (λ bs. Holds coding bs table keys) (sym v) h)))
+          (c.in_ok-here.ensures.keys keys _ (digit_part coding bases table keys j c.loop-j.from _ _ are c.loop-j-test.true c.loop-j.invariant.from c.in_ok-present.ensures refl (subst (λ bs. Holds coding bs table keys) (sym v) h)))
           c.in_ok-rows-2.ensures;
     }
 
@@ -43,3 +42,16 @@ pub returns-clause-keys : goal.returns-clause-keys
 returns-clause-keys g c = λ keys h.
     let v = c.as_slice-bases.ensures.value in
     equal_end c.args.self.now.coding c.as_slice-bases.result.now c.args.self.now.table keys c.loop-j.j c.args.key _ (omega (arith, c.loop-j-test.false)) (subst (λ bs. c.args.key < product bs) (sym v) c.requires) (subst (λ bs. Holds c.args.self.now.coding bs c.args.self.now.table keys) (sym v) h) (c.loop-j.invariant.keys keys h)
+
+pub equal-requires-clause-room : goal.equal-requires-clause-room
+equal-requires-clause-room g c =
+    let are = subst AreBases (sym c.as_slice-bases.ensures.value) c.as_slice-bases.ensures.are in
+    let most = from-most c.args.self.now.coding c.as_slice-bases.result.now c.loop-j.j are c.loop-j-test.true in
+    omega (arith, most, c.loop-j.invariant.from)
+
+pub equal-requires-clause-inside : goal.equal-requires-clause-inside
+equal-requires-clause-inside g c =
+    let i = c.args.self.now in
+    let within = width-within i.coding c.as_slice-bases.result.now c.loop-j.j c.loop-j-test.true in
+    let wide = i.wide ∙ ap (width i.coding) (sym c.as_slice-bases.ensures.value) in
+    omega (arith, within, wide, c.loop-j.invariant.from)

@@ -6,6 +6,6 @@ use Rattle.string_index.proofs.index.StringIndex.equal.Goals as goal
 
 pub returns-clause-sure : goal.returns-clause-sure
 returns-clause-sure g c = λ keys h.
-    c.in_ok-sure.ensures
+    c.in_ok-sure.ensures.value
     ∙ ap (λ xs. cond (leb (length c.args.text.now) 8) xs (bitwise and_not xs xs)) (c.in_ok-maybe.ensures.keys keys h)
     ∙ when_answers (λ key. same_start key c.args.text.now) keys (leb (length c.args.text.now) 8)

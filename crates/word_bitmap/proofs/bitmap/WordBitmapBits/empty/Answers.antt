@@ -1,4 +1,4 @@
-use Rattle.word_bitmap.proofs.WordLemmas.{below_none}
+use Rattle.bits_law.proofs.WordBits.{below_none}
 use Rattle.word_bitmap.proofs.bitmap.WordBitmapBits.empty.Goals as goal
 
 pub returns : goal.returns

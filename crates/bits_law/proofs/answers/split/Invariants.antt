@@ -1,0 +1,13 @@
+use Rattle.std.proofs.Common.{◌-◌, ◌≤◌}
+use Rattle.bits_law.proofs.AskLemmas.{AreHalves}
+use Rattle.bits_law.proofs.answers.split.Given as goal
+
+-- the numbers that the words so far spell, against the key's first bits
+abbrev pub invariant-loop-j : goal.invariant-loop-j
+invariant-loop-j l = record {
+  within : l.j ≤ l.count;
+  halves : AreHalves l.words l.first l.count l.key l.among l.halves.below l.halves.equal l.j;
+}
+
+abbrev pub decreases-loop-j : goal.decreases-loop-j
+decreases-loop-j l = l.count - l.j
