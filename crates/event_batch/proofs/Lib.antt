@@ -1,6 +1,7 @@
 pub mod BatchLemmas
 pub mod ContentLemmas
 pub mod FieldLemmas
+pub mod HalfLemmas
 pub mod LoopLemmas
 pub mod PackingLemmas
 pub mod PlaceLemmas

@@ -4,6 +4,7 @@ use Rattle.std.specs.Prelude.{IfOk}
 use Rattle.std.proofs.lemmas.Grind.{common_steps}
 use Rattle.std.proofs.lemmas.Bool.{ltb-false}
 use Rattle.std.proofs.lemmas.List.{append-nil, length-take}
+use Rattle.std.proofs.lemmas.Option.{same_Some}
 use Rattle.vast_value.specs.declared.cell.Cell.{Cell}
 use Rattle.vast_value.specs.declared.column.Column.{Column}
 use Rattle.vast_value.specs.Headings.{field_of}
@@ -11,7 +12,7 @@ use Rattle.event_batch.specs.declared.packed_end.PackedEnd.{PackedEnd}
 use Rattle.event_batch.specs.declared.packed_end.PackedEnd.TheVariants as packed_end
 use Rattle.event_batch.specs.declared.format.Format.{Format}
 use Rattle.event_batch.specs.Answers.{Fails, Gives}
-use Rattle.event_batch.specs.Reading.{◌>>=◌, number_at, text_at, many_at, cell_at, row_at}
+use Rattle.event_batch.specs.Reading.{◌>>=◌, number_at, text_at, reads_as, many_at, cell_at, row_at}
 
 -- what was read before, and what is still read
 abbrev pub with_front : {A : Type 0} → List A → Option (List A × List ℕ) → Option (List A × List ℕ)
@@ -50,19 +51,38 @@ next_column cs i c lt is =
     let parts : drop i cs ≡ get_or cs i c ∷ drop (i + 1) cs = rw add-one (drop-cons cs i c lt) in
     rw (parts, ← is) refl
 
-pub row_goes_on : (f : Format) (cs : List Column) (front : List Cell) (i : ℕ) (c : Column) (bytes : List ℕ) (n : Cell) (after : List ℕ) (total : Option (List Cell × List ℕ)) → i < length cs → c ≡ get_or cs i c → cell_at f c.kind bytes ≡ Some (n, after)
-    → with_front front (row_at f (map field_of (drop i cs)) bytes) ≡ total → with_front (front ++ n ∷ []) (row_at f (map field_of (drop (i + 1) cs)) after) ≡ total
+-- a cell that is put behind those of a row, and what is read behind it
+put_next : (read : Option (Cell × List ℕ)) (next : List ℕ → Option (List Cell × List ℕ)) (front new : List Cell) (after : List ℕ) → reads_as (λ x. front ++ x ∷ []) read ≡ Some (new, after)
+    → with_front front (read >>= λ first. (next first.1 >>= λ others. Some (first.0 ∷ others.0, others.1))) ≡ with_front new (next after)
+put_next None next front new after h = absurd cc
+put_next (Some x) next front new after h =
+    let same = same_Some (front ++ x.0 ∷ [], x.1) (new, after) h in
+    let row : front ++ x.0 ∷ [] ≡ new = ap (λ (p : List Cell × List ℕ). p.0) same in
+    let rest : x.1 ≡ after = ap (λ (p : List Cell × List ℕ). p.1) same in
+    rw (← row, ← rest) (regroup front x.0 (next x.1))
+
+-- where no cell is put, none is read
+not_put : {B : Type 0} (e : PackedEnd) (f : Cell → B) (read : Option (Cell × List ℕ)) → Fails e (reads_as f read) → Fails e read
+not_put packed_end.Memory f read h = tt
+not_put packed_end.NotABatch f None h = refl
+not_put packed_end.NotABatch f (Some x) h = absurd cc
+
+pub row_goes_on : (f : Format) (cs : List Column) (front : List Cell) (i : ℕ) (c : Column) (bytes : List ℕ) (new : List Cell) (after : List ℕ) (total : Option (List Cell × List ℕ)) → i < length cs → c ≡ get_or cs i c
+    → reads_as (λ x. front ++ x ∷ []) (cell_at f c.kind bytes) ≡ Some (new, after)
+    → with_front front (row_at f (map field_of (drop i cs)) bytes) ≡ total → with_front new (row_at f (map field_of (drop (i + 1) cs)) after) ≡ total
 unfolding row_at
-row_goes_on f cs front i c bytes n after total lt is h so_far =
-    let here : with_front front (row_at f (map field_of (drop i cs)) bytes) ≡ with_front (front ++ n ∷ []) (row_at f (map field_of (drop (i + 1) cs)) after) = rw (next_column cs i c lt is, h) (regroup front n (row_at f (map field_of (drop (i + 1) cs)) after)) in
+row_goes_on f cs front i c bytes new after total lt is h so_far =
+    let here : with_front front (row_at f (map field_of (drop i cs)) bytes) ≡ with_front new (row_at f (map field_of (drop (i + 1) cs)) after) = rw (next_column cs i c lt is) (put_next (cell_at f c.kind bytes) (row_at f (map field_of (drop (i + 1) cs))) front new after h) in
     sym here ∙ so_far
 
-pub row_ends : (f : Format) (cs : List Column) (e : PackedEnd) (front : List Cell) (i : ℕ) (c : Column) (bytes : List ℕ) (total : Option (List Cell × List ℕ)) → i < length cs → c ≡ get_or cs i c → Fails e (cell_at f c.kind bytes)
+pub row_ends : (f : Format) (cs : List Column) (e : PackedEnd) (front : List Cell) (i : ℕ) (c : Column) (bytes : List ℕ) (total : Option (List Cell × List ℕ)) → i < length cs → c ≡ get_or cs i c
+    → Fails e (reads_as (λ x. front ++ x ∷ []) (cell_at f c.kind bytes))
     → with_front front (row_at f (map field_of (drop i cs)) bytes) ≡ total → Fails e total
 unfolding row_at
 row_ends f cs packed_end.Memory front i c bytes total lt is h so_far = tt
 row_ends f cs packed_end.NotABatch front i c bytes total lt is h so_far =
-    let here : with_front front (row_at f (map field_of (drop i cs)) bytes) ≡ None = rw (next_column cs i c lt is, h) refl in
+    let none = not_put packed_end.NotABatch (λ (x : Cell). front ++ x ∷ []) (cell_at f c.kind bytes) h in
+    let here : with_front front (row_at f (map field_of (drop i cs)) bytes) ≡ None = rw (next_column cs i c lt is, none) refl in
     sym so_far ∙ here
 
 nothing_left : (cs : List Column) (i : ℕ) → length cs ≤ i → drop i cs ≡ []

@@ -6,7 +6,7 @@ use Rattle.std.specs.List.{list_all, flat_map, slice_get}
 use Rattle.std.specs.Prelude.{is_none, is_some, option_map}
 use Rattle.std.proofs.lemmas.Bool.{le-leb, lt-ltb, ltb-true, ltb-false, eqb-true, and_parts, and_from, or_parts, not_from_false, cond_both}
 use Rattle.std.proofs.lemmas.Int.{of_z-to_z, ints}
-use Rattle.std.proofs.lemmas.List.{length-take-le, take-append-drop, append-nil}
+use Rattle.std.proofs.lemmas.List.{length-append, length-take-le, take-append-drop, append-nil, drop_at}
 use Rattle.std.proofs.lemmas.List.Folds.{list_all-append}
 use Rattle.std.proofs.lemmas.Option.{same_Some, cond_some}
 use Rattle.std.proofs.Math.Facts.{sfits_to_z, Fits-of_lt}
@@ -411,6 +411,21 @@ set_cell_read f (kind.VecOf e) bytes read h found =
     let whole : 1 ∷ bytes ≡ cell_bytes f read.0 ++ read.1 = ap (λ (x : List ℕ). 1 ∷ x) c.spelled ∙ ap (λ (x : Cell). cell_bytes f x ++ read.1) (sym c.many) in
     let fine : fits_cell f (kind.VecOf e) read.0 ≡ true = ap (fits_cell f (kind.VecOf e)) c.many ∙ and_from _ _ (container_kind f e bytes read c) (container_small f e bytes read c) in
     record { whole = whole; fine = fine; behind = c.behind }
+
+-- a cell has a byte at least
+marked : (f : Format) (x : Cell) → 1 ≤ length (cell_bytes f x)
+marked f cell.Unset = omega arith
+marked f (cell.One v) = omega arith
+marked f (cell.Many items) = omega arith
+
+-- what is read of a set cell stands in front of the rest
+pub set_cell_behind : (f : Format) (k : Kind) (bytes : List ℕ) (x : Cell) (rest : List ℕ) → list_all is_byte bytes ≡ true → set_cell_at f k bytes ≡ Some (x, rest) → (length rest ≤ length bytes) × (drop (length bytes - length rest) bytes ≡ rest)
+set_cell_behind f k bytes x rest h found =
+    let r = set_cell_read f k bytes (x, rest) h found in
+    let some = marked f x in
+    let count : suc (length bytes) ≡ length (cell_bytes f x) + length rest = ap length r.whole ∙ length-append (cell_bytes f x) rest in
+    let here : drop (suc (length bytes - length rest)) (1 ∷ bytes) ≡ rest = ap (drop (suc (length bytes - length rest))) r.whole ∙ drop_at (cell_bytes f x) rest (suc (length bytes - length rest)) (omega arith) in
+    (omega arith, here)
 
 cell_read : (f : Format) (k : Kind) → Reads (cell_at f k) (cell_bytes f) (fits_cell f k)
 unfolding cell_at

@@ -1,14 +1,15 @@
 //! Reading the bytes of a batch. Each function gives a value and the bytes behind it.
-ghost use Rattle.std.specs.Prelude.{◌≡◌, ◌≤◌, ◌^◌, length, map, IfOk, IfErr, OnOk, ◌-◌, ◌%◌, ◌==◌};
+ghost use Rattle.std.specs.Prelude.{◌≡◌, ◌+◌, ◌≤◌, ◌^◌, [], ◌∷◌, ◌++◌, length, drop, map, IfOk, IfErr, OnOk, ◌-◌, ◌%◌, ◌==◌};
 ghost use Rattle.vast_value.specs.Headings.{field_of, heading_of};
 ghost use Rattle.vast_value.specs.Kinds.{is_lone_unset};
 ghost use Rattle.event_batch.specs.Answers.{Gives, said_by};
+ghost use Rattle.event_batch.specs.declared.format.Format.TheVariants.{Second};
 ghost use Rattle.event_batch.specs.declared.packed_end.PackedEnd.TheVariants.{NotABatch};
 ghost use Rattle.event_batch.specs.Contents.{Spelled, content_of};
 ghost use Rattle.event_batch.specs.Packings.{IsSpelled, said_in};
 ghost use Rattle.event_batch.specs.Spelling.{Spells};
 ghost use Rattle.vast_value.specs.Nets.{net_of};
-ghost use Rattle.event_batch.specs.Reading.{byte_at, number_at, signed_at, text_at, bool_at, net_at, port_at, value_at, element_at, many_at, container_at, set_cell_at, cell_at, row_at, elem_of_code, kind_of_code, field_at, heading_at, rows_at, content_at};
+ghost use Rattle.event_batch.specs.Reading.{byte_at, number_at, signed_at, text_at, bool_at, net_at, port_at, reads_as, value_at, element_at, many_at, container_at, set_cell_at, cell_at, row_at, elem_of_code, kind_of_code, field_at, heading_at, rows_at, content_at};
 
 use crate::batch::{Batch, MOST_ROWS};
 use crate::format::Format;
@@ -290,19 +291,173 @@ fn set_cell_at(
     }
 }
 
-#[tactic(auto, unfolding(crate::specs::Reading::cell_at))]
-fn cell_at(
+// The functions below read straight into a row, and give how many bytes they read: a cell that is handed on by value is
+// copied through memory at each step.
+
+#[inline]
+#[tactic(auto, unfolding(crate::specs::Reading::number_at))]
+fn u64_front(bytes: &[u8]) -> Result<u64, PackedEnd>
+    ensures read { Gives (λ n. (n, drop 8 bytes.now)) result (number_at 8 bytes.now) }
+    ensures within { OnOk result (8 ≤ length bytes.now) }
+{
+    if bytes.len() < 8 {
+        return Err(PackedEnd::NotABatch);
+    }
+    Ok(LittleEndian::read_u64(bytes))
+}
+
+#[inline]
+#[tactic(auto, unfolding(crate::specs::Reading::signed_at))]
+fn i64_front(bytes: &[u8]) -> Result<i64, PackedEnd>
+    ensures read { Gives (λ n. (n, drop 8 bytes.now)) result (signed_at bytes.now) }
+    ensures within { OnOk result (8 ≤ length bytes.now) }
+{
+    let number = u64_front(bytes)?;
+    Ok(number.cast_signed())
+}
+
+// A number of 16 bytes is read as two of 8, which the compiler loads whole.
+#[inline]
+#[tactic(auto, using(crate::proofs::HalfLemmas::from_halves), unfolding(crate::specs::Reading::number_at))]
+fn u128_front(bytes: &[u8]) -> Result<u128, PackedEnd>
+    ensures read { Gives (λ n. (n, drop 16 bytes.now)) result (number_at 16 bytes.now) }
+    ensures within { OnOk result (16 ≤ length bytes.now) }
+{
+    if bytes.len() < 16 {
+        return Err(PackedEnd::NotABatch);
+    }
+    let low = LittleEndian::read_u64(bytes);
+    let high = LittleEndian::read_u64(&bytes[8..]);
+    Ok(low as u128 + ((high as u128) << 64))
+}
+
+#[inline]
+#[tactic(auto, unfolding(crate::specs::Reading::text_at, crate::specs::Reading::number_at))]
+fn text_front(alloc: Global, bytes: &[u8]) -> Result<Bytes, PackedEnd>
+    ensures read { Gives (λ t. (t, drop (4 + length t) bytes.now)) result (text_at bytes.now) }
+    ensures within { IfOk result (λ t. 4 + length t ≤ length bytes.now) }
+{
+    if bytes.len() < 4 {
+        return Err(PackedEnd::NotABatch);
+    }
+    let count = LittleEndian::read_u32(bytes) as usize;
+    let rest = &bytes[4..];
+    if count > MOST_PARTS || rest.len() < count {
+        return Err(PackedEnd::NotABatch);
+    }
+    Ok(Bytes::copy(alloc, &rest[..count])?)
+}
+
+#[inline]
+#[tactic(auto, unfolding(crate::specs::Reading::port_at, crate::specs::Reading::number_at, crate::specs::Reading::byte_at))]
+fn second_port_front(bytes: &[u8]) -> Result<Value, PackedEnd>
+    ensures read { Gives (λ v. (v, drop 3 bytes.now)) result (port_at Second bytes.now) }
+    ensures within { OnOk result (3 ≤ length bytes.now) }
+{
+    if bytes.len() < 3 {
+        return Err(PackedEnd::NotABatch);
+    }
+    let number = LittleEndian::read_u16(bytes);
+    let Some(over) = Transport::coded(bytes[2]) else {
+        return Err(PackedEnd::NotABatch);
+    };
+    Ok(Value::Port { number, over })
+}
+
+// A cell of a rarer kind, by value.
+#[inline(never)]
+fn put_other_at(
     alloc: Global,
     format: Format,
     kind: Kind,
     bytes: &[u8],
-) -> Result<(Cell, &[u8]), PackedEnd>
-    ensures { Gives (λ x. (x.0, x.1.now)) result (cell_at format kind bytes.now) }
+    row: &mut Row,
+) -> Result<usize, PackedEnd>
+    ensures read { Gives (λ n. (row.new, drop n bytes.now)) result (reads_as (λ x. row.old ++ x ∷ []) (set_cell_at format kind bytes.now)) }
+    ensures within { IfOk result (λ n. n ≤ length bytes.now) }
+{
+    ranged_bytes(bytes);
+    let (cell, rest) = set_cell_at(alloc, format, kind, bytes)?;
+    row.push(cell)?;
+    Ok(bytes.len() - rest.len())
+}
+
+#[inline(always)]
+#[tactic(auto, unfolding(crate::specs::Reading::set_cell_at, crate::specs::Reading::value_at))]
+fn put_set_cell_at(
+    alloc: Global,
+    format: Format,
+    kind: Kind,
+    bytes: &[u8],
+    row: &mut Row,
+) -> Result<usize, PackedEnd>
+    ensures read { Gives (λ n. (row.new, drop n bytes.now)) result (reads_as (λ x. row.old ++ x ∷ []) (set_cell_at format kind bytes.now)) }
+    ensures within { IfOk result (λ n. n ≤ length bytes.now) }
+{
+    match (kind, format) {
+        (Kind::One(Elem::Count), _) => {
+            let n = u64_front(bytes)?;
+            row.push(Cell::One(Value::Count(n)))?;
+            Ok(8)
+        }
+        (Kind::One(Elem::Time), _) => {
+            let t = i64_front(bytes)?;
+            row.push(Cell::One(Value::Time(t)))?;
+            Ok(8)
+        }
+        (Kind::One(Elem::Span), _) => {
+            let t = i64_front(bytes)?;
+            row.push(Cell::One(Value::Span(t)))?;
+            Ok(8)
+        }
+        (Kind::One(Elem::Text), _) => {
+            let text = text_front(alloc, bytes)?;
+            let count = 4 + text.as_slice().len();
+            row.push(Cell::One(Value::Text(text)))?;
+            Ok(count)
+        }
+        (Kind::One(Elem::Name), _) => {
+            let text = text_front(alloc, bytes)?;
+            let count = 4 + text.as_slice().len();
+            row.push(Cell::One(Value::Name(text)))?;
+            Ok(count)
+        }
+        (Kind::One(Elem::Addr), _) => {
+            let addr = u128_front(bytes)?;
+            row.push(Cell::One(Value::Addr(addr)))?;
+            Ok(16)
+        }
+        (Kind::One(Elem::Port), Format::Second) => {
+            let port = second_port_front(bytes)?;
+            row.push(Cell::One(port))?;
+            Ok(3)
+        }
+        _ => put_other_at(alloc, format, kind, bytes, row),
+    }
+}
+
+#[inline]
+#[tactic(auto, unfolding(crate::specs::Reading::cell_at))]
+fn put_cell_at(
+    alloc: Global,
+    format: Format,
+    kind: Kind,
+    bytes: &[u8],
+    row: &mut Row,
+) -> Result<usize, PackedEnd>
+    ensures read { Gives (λ n. (row.new, drop n bytes.now)) result (reads_as (λ x. row.old ++ x ∷ []) (cell_at format kind bytes.now)) }
+    ensures within { IfOk result (λ n. n ≤ length bytes.now) }
 {
     match bytes {
         [] => Err(PackedEnd::NotABatch),
-        [0, rest @ ..] => Ok((Cell::Unset, rest)),
-        [1, rest @ ..] => set_cell_at(alloc, format, kind, rest),
+        [0, ..] => {
+            row.push(Cell::Unset)?;
+            Ok(1)
+        }
+        [1, rest @ ..] => {
+            let count = put_set_cell_at(alloc, format, kind, rest, row)?;
+            Ok(1 + count)
+        }
         [_, ..] => Err(PackedEnd::NotABatch),
     }
 }
@@ -318,11 +473,18 @@ fn row_at<'a>(
     let mut row = Row::with_capacity(alloc, columns.len())?;
     let mut rest = bytes;
     for column in columns {
-        let (cell, after) = cell_at(alloc, format, column.kind, rest)?;
-        row.push(cell)?;
-        rest = after;
+        let count = put_cell_at(alloc, format, column.kind, rest, &mut row)?;
+        rest = behind(rest, count);
     }
     Ok((row, rest))
+}
+
+#[inline(always)]
+fn behind(bytes: &[u8], count: usize) -> &[u8]
+    requires { count ≤ length bytes.now }
+    ensures { result.now ≡ drop count bytes.now }
+{
+    &bytes[count..]
 }
 
 #[tactic(auto, unfolding(crate::specs::Reading::elem_of_code))]

@@ -8,34 +8,16 @@ ghost use Rattle.event_batch.specs.declared.format.Format.TheVariants.{Second};
 ghost use Rattle.event_batch.specs.Spelling.{element_bytes, cell_bytes, row_bytes};
 
 use crate::batch::Batch;
-use vast_value::{Cell, Column, Row, Value};
+use vast_value::{Cell, Row, Value};
 
-/// The memory that a batch's bytes are written into at once. No promise rests on it: one too low would cost time.
-pub(crate) fn batch_size(batch: &Batch) -> usize {
-    let heading = columns_size(batch.layout().columns()).saturating_add(
-        batch.layout().path().len(),
-    );
-    rows_size(batch.rows())
-        .saturating_add(heading)
-        .saturating_add(15)
-}
-
-fn columns_size(columns: &[Column]) -> usize {
-    let mut size: usize = 0;
-    for column in columns {
-        size = size
-            .saturating_add(column.name.as_slice().len())
-            .saturating_add(5);
-    }
-    size
-}
-
-fn rows_size(rows: &[Row]) -> usize {
-    let mut size: usize = 0;
-    for row in rows {
-        size = size.saturating_add(row_size(row) as usize);
-    }
-    size
+/// The memory that a batch's bytes are first written into: for each row as many bytes as the first has, though at most
+/// 256. No promise rests on it: one too low costs time.
+pub(crate) fn first_size(batch: &Batch) -> usize {
+    let row = match batch.rows() {
+        [] => 0,
+        [row, ..] => row_size(row).min(256) as usize,
+    };
+    row.saturating_mul(batch.rows().len()).saturating_add(256)
 }
 
 /// The number of bytes of the row's cells in format 2. A row that fits a layout has at most 2^57, so the sum for the

@@ -1,14 +1,18 @@
 //! Measures parts of the program, for the scripts of bench/. It is no part of the product.
 #![tactic(auto)]
 
+mod batches;
 mod bitmaps;
 mod packets;
 mod turns;
 
 use std::env;
+use std::marker::Brand;
 use std::process::ExitCode;
+use std::sync::ledger::Blank;
 
-const USAGE: &str = "measure turns THREADS TURNS, decode PACKETS, bitmaps BITS ONE_IN";
+const USAGE: &str =
+    "measure turns THREADS TURNS, decode PACKETS, bitmaps BITS ONE_IN, batches ROWS ENCODES UNPACKS";
 
 fn main(rt: HostRuntime) -> anyhow::Result<ExitCode> {
     let mut words = env::args(&rt)?;
@@ -41,6 +45,24 @@ fn main(rt: HostRuntime) -> anyhow::Result<ExitCode> {
                 println!(rt; "append {}", spent.append.as_nanos())?;
                 println!(rt; "and {}", spent.and.as_nanos())?;
                 println!(rt; "ones {}", spent.ones)?;
+                return Ok(ExitCode::SUCCESS);
+            }
+        }
+    }
+    if what == Some("batches") {
+        let rows = words.next().and_then(|word| word.parse().ok());
+        let encodes = words.next().and_then(|word| word.parse().ok());
+        let unpacks = words.next().and_then(|word| word.parse().ok());
+        if let (Some(rows), Some(encodes), Some(unpacks)) = (rows, encodes, unpacks) {
+            let blank = Blank::new(1);
+            if let Some(size) = batches::measure::<Brand>(
+                rt.alloc(),
+                blank,
+                rows,
+                encodes,
+                unpacks,
+            )? {
+                println!(rt; "bytes {size}")?;
                 return Ok(ExitCode::SUCCESS);
             }
         }
