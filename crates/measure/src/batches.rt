@@ -1,8 +1,9 @@
 //! A made batch of connections, packed and unpacked.
-ghost use Rattle.std.specs.Prelude.{◌≡◌, ◌<◌};
+ghost use Rattle.std.specs.Prelude.{◌≡◌, ◌<◌, ◌≤◌, length};
 
 use event_batch::{Batch, Rows, Steps, encode, unpack};
 use std::alloc::{AllocError, Global};
+use std::marker::Brand;
 use std::sync::ledger::{Blank, Ledger};
 use vast_value::{Bytes, Cell, Cells, Column, Columns, Elem, Kind, Layout, Row, Transport, Value};
 
@@ -37,7 +38,16 @@ const LETTERS: [u8; 18] = *b"CHhAvVGS1DHFjwGM9a";
 
 /// Packs a batch of so many rows so many times, and unpacks it so many times. It gives the number of its bytes, and
 /// `None` where there is no such batch.
-pub fn measure<L: Ledger>(
+pub fn measure(
+    alloc: Global,
+    rows: u32,
+    encodes: u32,
+    unpacks: u32,
+) -> Result<Option<usize>, AllocError> {
+    measure_counted::<Brand>(alloc, Blank::new(1), rows, encodes, unpacks)
+}
+
+fn measure_counted<L: Ledger>(
     alloc: Global,
     blank: Blank,
     rows: u32,
@@ -95,7 +105,9 @@ fn connection(alloc: Global, number: u32) -> Result<Row, AllocError> {
 }
 
 // The truth values are unset, and so are the durations of four rows in five.
-fn cell(alloc: Global, elem: Elem, letters: &[u8], number: u32) -> Result<Cell, AllocError> {
+fn cell(alloc: Global, elem: Elem, letters: &[u8], number: u32) -> Result<Cell, AllocError>
+    requires { length letters.now ≤ 18 }
+{
     Ok(Cell::One(match elem {
         Elem::Count => Value::Count(number as u64),
         Elem::Time => Value::Time(1_300_475_167_000_000_000 + number as i64),

@@ -7,9 +7,7 @@ mod packets;
 mod turns;
 
 use std::env;
-use std::marker::Brand;
 use std::process::ExitCode;
-use std::sync::ledger::Blank;
 
 const USAGE: &str =
     "measure turns THREADS TURNS, decode PACKETS, bitmaps BITS ONE_IN, batches ROWS ENCODES UNPACKS";
@@ -54,14 +52,7 @@ fn main(rt: HostRuntime) -> anyhow::Result<ExitCode> {
         let encodes = words.next().and_then(|word| word.parse().ok());
         let unpacks = words.next().and_then(|word| word.parse().ok());
         if let (Some(rows), Some(encodes), Some(unpacks)) = (rows, encodes, unpacks) {
-            let blank = Blank::new(1);
-            if let Some(size) = batches::measure::<Brand>(
-                rt.alloc(),
-                blank,
-                rows,
-                encodes,
-                unpacks,
-            )? {
+            if let Some(size) = batches::measure(rt.alloc(), rows, encodes, unpacks)? {
                 println!(rt; "bytes {size}")?;
                 return Ok(ExitCode::SUCCESS);
             }
