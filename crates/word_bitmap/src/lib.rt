@@ -4,8 +4,10 @@
 
 mod bitmap;
 mod combine;
-mod edits;
+mod kernels;
 mod piece;
+mod pieces;
+mod reads;
 mod words;
 
 pub use bitmap::WordBitmap;
