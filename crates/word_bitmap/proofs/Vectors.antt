@@ -13,8 +13,8 @@ six_in_two_and_four = (refl, refl)
 three_pieces : words_from (9 ∷ 5 ∷ []) 0 (record { kind = Fill 7; end = 2 } ∷ record { kind = Literal 2; end = 3 } ∷ record { kind = Literal 2; end = 4 } ∷ []) ≡ 7 ∷ 7 ∷ 9 ∷ 5 ∷ []
 three_pieces = refl
 
--- both pieces may need four literals, and three
-needs_of_two : needs 0 (record { kind = Fill 7; end = 100 } ∷ record { kind = Literal 100; end = 103 } ∷ []) ≡ 7
+-- the pieces may need eight literals, and three
+needs_of_two : needs 0 (record { kind = Fill 7; end = 100 } ∷ record { kind = Literal 100; end = 103 } ∷ []) ≡ 11
 needs_of_two = refl
 
 -- 1010 where a word has ones, and 0110 elsewhere

@@ -91,7 +91,7 @@ chosen clear set word = bit_xor clear (bit_and word (bit_xor clear set))
 
 -- how many literals it takes at most to append `n` words of a piece at any place
 abbrev pub need : Kind → ℕ → ℕ
-need (Fill word) n = 4
+need (Fill word) n = 8
 need (Literal skipped) n = n
 
 abbrev pub needs : ℕ → List Piece → ℕ

@@ -54,7 +54,7 @@ impl Bits for WordBitmap {
         if n > LONGEST - have {
             return Err(BitsEnd::TooLong { have, more: n });
         }
-        self.words.pieces.reserve(3, 4)?;
+        self.words.pieces.reserve(3, 8)?;
         self.words.extend(bit, n);
         Ok(())
     }

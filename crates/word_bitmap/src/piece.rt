@@ -31,10 +31,10 @@ impl Kind {
     /// How many literals it takes at most to append `n` of these words at any place.
     pub fn literals_needed(self, n: u64) -> usize
         ensures value { result ≡ need self n }
-        ensures bounded { result ≤ 4 + n }
+        ensures bounded { result ≤ 8 + n }
     {
         match self {
-            Kind::Fill(_) => 4,
+            Kind::Fill(_) => 8,
             Kind::Literal(_) => n as usize,
         }
     }

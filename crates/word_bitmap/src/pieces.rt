@@ -7,7 +7,7 @@ use crate::piece::{Kind, Piece};
 use std::alloc::{AllocError, Global};
 
 /// As many equal words are kept as a fill. Fewer are literals.
-const LEAST_FILL: u64 = 4;
+const LEAST_FILL: u64 = 8;
 
 /// Words as pieces, and the literal words of all pieces. The newest equal words, from word `closed` up to word `end`,
 /// aren't in the list yet.
@@ -70,14 +70,14 @@ impl Pieces {
     fn close(&mut self)
         requires laid { IsLaid self.old }
         requires list { vec_len self.old.list + 1 ≤ vec_capacity self.old.list }
-        requires literals { vec_len self.old.literals + min 3 (self.old.end - self.old.closed) ≤ vec_capacity self.old.literals }
+        requires literals { vec_len self.old.literals + min 7 (self.old.end - self.old.closed) ≤ vec_capacity self.old.literals }
         ensures words { words_of self.new ≡ words_of self.old }
         ensures laid { IsLaid self.new }
         ensures end { self.new.end ≡ self.old.end }
         ensures closed { self.new.closed ≡ self.old.end }
         ensures list { vec_len self.new.list ≤ vec_len self.old.list + 1 }
         ensures list_capacity { vec_capacity self.old.list ≤ vec_capacity self.new.list }
-        ensures literals { vec_len self.new.literals ≤ vec_len self.old.literals + min 3 (self.old.end - self.old.closed) }
+        ensures literals { vec_len self.new.literals ≤ vec_len self.old.literals + min 7 (self.old.end - self.old.closed) }
         ensures literals_capacity { vec_capacity self.old.literals ≤ vec_capacity self.new.literals }
     {
         let n = self.end - self.closed;
@@ -104,13 +104,13 @@ impl Pieces {
         requires laid { IsLaid self.old }
         requires order { self.old.end ≤ to }
         requires list { vec_len self.old.list + 1 ≤ vec_capacity self.old.list }
-        requires literals { vec_len self.old.literals + min 3 (self.old.end - self.old.closed) ≤ vec_capacity self.old.literals }
+        requires literals { vec_len self.old.literals + min 7 (self.old.end - self.old.closed) ≤ vec_capacity self.old.literals }
         ensures words { words_of self.new ≡ words_of self.old ++ replicate (to - self.old.end) word }
         ensures laid { IsLaid self.new }
         ensures end { self.new.end ≡ to }
         ensures list { vec_len self.new.list ≤ vec_len self.old.list + 1 }
         ensures list_capacity { vec_capacity self.old.list ≤ vec_capacity self.new.list }
-        ensures literals { vec_len self.new.literals + min 3 (to - self.new.closed) ≤ vec_len self.old.literals + min 3 (self.old.end - self.old.closed) + min 3 (to - self.old.end) }
+        ensures literals { vec_len self.new.literals + min 7 (to - self.new.closed) ≤ vec_len self.old.literals + min 7 (self.old.end - self.old.closed) + min 7 (to - self.old.end) }
         ensures literals_capacity { vec_capacity self.old.literals ≤ vec_capacity self.new.literals }
     {
         if self.word == word {
@@ -130,10 +130,10 @@ impl Pieces {
         ensures end { self.new.end ≡ self.old.end }
         ensures closed { self.new.closed ≡ self.old.closed }
         ensures list { OnOk result (vec_len self.new.list + pieces ≤ vec_capacity self.new.list) }
-        ensures literals { OnOk result (vec_len self.new.literals + min 3 (self.new.end - self.new.closed) + literals ≤ vec_capacity self.new.literals) }
+        ensures literals { OnOk result (vec_len self.new.literals + min 7 (self.new.end - self.new.closed) + literals ≤ vec_capacity self.new.literals) }
     {
         self.list.reserve(pieces)?;
-        self.literals.reserve(literals + 3)
+        self.literals.reserve(literals + 7)
     }
 
     /// Copies words behind the literals, for `stretch` to take them, and gives the place of the first one.
@@ -162,7 +162,7 @@ impl Pieces {
         requires last { last < 2 ^ held }
         requires short { self.old.end + length words.now ≤ 2 ^ 40 }
         requires list { vec_len self.old.list + 2 ≤ vec_capacity self.old.list }
-        requires literals { vec_len self.old.literals + min 3 (self.old.end - self.old.closed) + length words.now ≤ vec_capacity self.old.literals }
+        requires literals { vec_len self.old.literals + min 7 (self.old.end - self.old.closed) + length words.now ≤ vec_capacity self.old.literals }
         ensures bits { spelled (words_of self.new) ++ bits_below result held ≡ (spelled (words_of self.old) ++ bits_below last held) ++ spelled words.now }
         ensures last { result < 2 ^ held }
         ensures laid { IsLaid self.new }
@@ -170,7 +170,7 @@ impl Pieces {
         ensures closed { self.new.closed ≡ self.new.end }
         ensures list { vec_len self.new.list ≤ vec_len self.old.list + 2 }
         ensures list_capacity { vec_capacity self.old.list ≤ vec_capacity self.new.list }
-        ensures literals { vec_len self.new.literals ≤ vec_len self.old.literals + min 3 (self.old.end - self.old.closed) + length words.now }
+        ensures literals { vec_len self.new.literals ≤ vec_len self.old.literals + min 7 (self.old.end - self.old.closed) + length words.now }
         ensures literals_capacity { vec_capacity self.old.literals ≤ vec_capacity self.new.literals }
     {
         self.close();

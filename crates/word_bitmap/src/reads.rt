@@ -135,15 +135,15 @@ impl Pieces {
         at
     }
 
-    /// How many literals it takes at most to append these words at any place. More than 2^60 pieces are never appended.
+    /// How many literals it takes at most to append these words at any place. More than 2^59 pieces are never appended.
     pub fn literals_needed(&self) -> Result<usize, AllocError>
         requires laid { IsLaid self.now }
         requires short { self.now.end ≤ 2 ^ 40 }
         ensures value { IfOk result (λ needed. needed ≡ needs 0 (all_of self.now)) }
         ensures bounded { IfOk result (λ needed. needed + 1 < 2 ^ 63) }
-        ensures few { IfOk result (λ _. vec_len self.now.list ≤ 2 ^ 60) }
+        ensures few { IfOk result (λ _. vec_len self.now.list ≤ 2 ^ 59) }
     {
-        if self.list.len() > 1 << 60 {
+        if self.list.len() > 1 << 59 {
             return Err(AllocError);
         }
         let mut needed = 0;

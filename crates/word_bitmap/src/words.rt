@@ -49,14 +49,14 @@ impl Words {
         requires word { word < 2 ^ n }
         requires short { 64 * self.old.pieces.end + self.old.held + n ≤ 2 ^ 40 }
         requires list { vec_len self.old.pieces.list + 1 ≤ vec_capacity self.old.pieces.list }
-        requires literals { vec_len self.old.pieces.literals + min 3 (self.old.pieces.end - self.old.pieces.closed) ≤ vec_capacity self.old.pieces.literals }
+        requires literals { vec_len self.old.pieces.literals + min 7 (self.old.pieces.end - self.old.pieces.closed) ≤ vec_capacity self.old.pieces.literals }
         ensures bits { shown self.new ≡ shown self.old ++ bits_below word n }
         ensures sound { IsSound self.new }
         ensures len { 64 * self.new.pieces.end + self.new.held ≡ 64 * self.old.pieces.end + self.old.held + n }
         ensures rest { n ≡ 64 → self.new.last ≡ word / 2 ^ (64 - self.new.held) }
         ensures list { vec_len self.new.pieces.list ≤ vec_len self.old.pieces.list + 1 }
         ensures list_capacity { vec_capacity self.old.pieces.list ≤ vec_capacity self.new.pieces.list }
-        ensures literals { vec_len self.new.pieces.literals + min 3 (self.new.pieces.end - self.new.pieces.closed) ≤ vec_len self.old.pieces.literals + min 3 (self.old.pieces.end - self.old.pieces.closed) + 1 }
+        ensures literals { vec_len self.new.pieces.literals + min 7 (self.new.pieces.end - self.new.pieces.closed) ≤ vec_len self.old.pieces.literals + min 7 (self.old.pieces.end - self.old.pieces.closed) + 1 }
         ensures literals_capacity { vec_capacity self.old.pieces.literals ≤ vec_capacity self.new.pieces.literals }
     {
         let joined = self.last as u128 + ((word as u128) << self.held);
@@ -78,13 +78,13 @@ impl Words {
         requires sound { IsSound self.old }
         requires short { 64 * self.old.pieces.end + self.old.held + 64 * count ≤ 2 ^ 40 }
         requires list { vec_len self.old.pieces.list + 2 ≤ vec_capacity self.old.pieces.list }
-        requires literals { vec_len self.old.pieces.literals + min 3 (self.old.pieces.end - self.old.pieces.closed) + 1 ≤ vec_capacity self.old.pieces.literals }
+        requires literals { vec_len self.old.pieces.literals + min 7 (self.old.pieces.end - self.old.pieces.closed) + 1 ≤ vec_capacity self.old.pieces.literals }
         ensures bits { shown self.new ≡ shown self.old ++ spelled (replicate count word) }
         ensures sound { IsSound self.new }
         ensures len { 64 * self.new.pieces.end + self.new.held ≡ 64 * self.old.pieces.end + self.old.held + 64 * count }
         ensures list { vec_len self.new.pieces.list ≤ vec_len self.old.pieces.list + 2 }
         ensures list_capacity { vec_capacity self.old.pieces.list ≤ vec_capacity self.new.pieces.list }
-        ensures literals { vec_len self.new.pieces.literals + min 3 (self.new.pieces.end - self.new.pieces.closed) ≤ vec_len self.old.pieces.literals + min 3 (self.old.pieces.end - self.old.pieces.closed) + 4 }
+        ensures literals { vec_len self.new.pieces.literals + min 7 (self.new.pieces.end - self.new.pieces.closed) ≤ vec_len self.old.pieces.literals + min 7 (self.old.pieces.end - self.old.pieces.closed) + 8 }
         ensures literals_capacity { vec_capacity self.old.pieces.literals ≤ vec_capacity self.new.pieces.literals }
     {
         if count == 0 {
@@ -107,7 +107,7 @@ impl Words {
         requires sound { IsSound self.old }
         requires short { 64 * self.old.pieces.end + self.old.held + n ≤ 2 ^ 40 }
         requires list { vec_len self.old.pieces.list + 3 ≤ vec_capacity self.old.pieces.list }
-        requires literals { vec_len self.old.pieces.literals + min 3 (self.old.pieces.end - self.old.pieces.closed) + 4 ≤ vec_capacity self.old.pieces.literals }
+        requires literals { vec_len self.old.pieces.literals + min 7 (self.old.pieces.end - self.old.pieces.closed) + 8 ≤ vec_capacity self.old.pieces.literals }
         ensures bits { shown self.new ≡ shown self.old ++ replicate n bit }
         ensures sound { IsSound self.new }
     {
@@ -145,13 +145,13 @@ impl Words {
         requires within { Within (length pieces.now.literals.items) kind at to }
         requires short { 64 * self.old.pieces.end + self.old.held + 64 * (to - at) ≤ 2 ^ 40 }
         requires list { vec_len self.old.pieces.list + 2 ≤ vec_capacity self.old.pieces.list }
-        requires literals { vec_len self.old.pieces.literals + min 3 (self.old.pieces.end - self.old.pieces.closed) + need kind (to - at) ≤ vec_capacity self.old.pieces.literals }
+        requires literals { vec_len self.old.pieces.literals + min 7 (self.old.pieces.end - self.old.pieces.closed) + need kind (to - at) ≤ vec_capacity self.old.pieces.literals }
         ensures bits { shown self.new ≡ shown self.old ++ spelled (part pieces.now.literals.items kind at to) }
         ensures sound { IsSound self.new }
         ensures len { 64 * self.new.pieces.end + self.new.held ≡ 64 * self.old.pieces.end + self.old.held + 64 * (to - at) }
         ensures list { vec_len self.new.pieces.list ≤ vec_len self.old.pieces.list + 2 }
         ensures list_capacity { vec_capacity self.old.pieces.list ≤ vec_capacity self.new.pieces.list }
-        ensures literals { vec_len self.new.pieces.literals + min 3 (self.new.pieces.end - self.new.pieces.closed) ≤ vec_len self.old.pieces.literals + min 3 (self.old.pieces.end - self.old.pieces.closed) + need kind (to - at) }
+        ensures literals { vec_len self.new.pieces.literals + min 7 (self.new.pieces.end - self.new.pieces.closed) ≤ vec_len self.old.pieces.literals + min 7 (self.old.pieces.end - self.old.pieces.closed) + need kind (to - at) }
         ensures literals_capacity { vec_capacity self.old.pieces.literals ≤ vec_capacity self.new.pieces.literals }
     {
         match kind {
@@ -165,13 +165,13 @@ impl Words {
         requires sound { IsSound self.old }
         requires short { 64 * self.old.pieces.end + self.old.held + 64 * length words.now ≤ 2 ^ 40 }
         requires list { vec_len self.old.pieces.list + 2 ≤ vec_capacity self.old.pieces.list }
-        requires literals { vec_len self.old.pieces.literals + min 3 (self.old.pieces.end - self.old.pieces.closed) + length words.now ≤ vec_capacity self.old.pieces.literals }
+        requires literals { vec_len self.old.pieces.literals + min 7 (self.old.pieces.end - self.old.pieces.closed) + length words.now ≤ vec_capacity self.old.pieces.literals }
         ensures bits { shown self.new ≡ shown self.old ++ spelled words.now }
         ensures sound { IsSound self.new }
         ensures len { 64 * self.new.pieces.end + self.new.held ≡ 64 * self.old.pieces.end + self.old.held + 64 * length words.now }
         ensures list { vec_len self.new.pieces.list ≤ vec_len self.old.pieces.list + 2 }
         ensures list_capacity { vec_capacity self.old.pieces.list ≤ vec_capacity self.new.pieces.list }
-        ensures literals { vec_len self.new.pieces.literals + min 3 (self.new.pieces.end - self.new.pieces.closed) ≤ vec_len self.old.pieces.literals + min 3 (self.old.pieces.end - self.old.pieces.closed) + length words.now }
+        ensures literals { vec_len self.new.pieces.literals + min 7 (self.new.pieces.end - self.new.pieces.closed) ≤ vec_len self.old.pieces.literals + min 7 (self.old.pieces.end - self.old.pieces.closed) + length words.now }
         ensures literals_capacity { vec_capacity self.old.pieces.literals ≤ vec_capacity self.new.pieces.literals }
     {
         self.last = self.pieces.add_shifted(words, self.last, self.held);

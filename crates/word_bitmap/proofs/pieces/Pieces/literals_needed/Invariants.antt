@@ -7,6 +7,6 @@ abbrev pub invariant-loop-i : goal.invariant-loop-i
 invariant-loop-i l = record {
   laid : AreLaid (length l.self.literals.items) l.at (drop l.i (all_of l.self));
   end : reach l.at (drop l.i (all_of l.self)) ≡ l.self.end;
-  fits : l.needed ≤ 4 * l.i + l.at;
+  fits : l.needed ≤ 8 * l.i + l.at;
   all : l.needed + needs l.at (drop l.i (all_of l.self)) ≡ needs 0 (all_of l.self);
 }
