@@ -7,6 +7,7 @@ use crate::kernels;
 use crate::piece::{Kind, Piece};
 use crate::pieces::Pieces;
 use std::alloc::AllocError;
+use std::simd::prelude::*;
 
 /// Which ones are kept of two bitmaps.
 #[derive(Clone, Copy, Debug, PartialEq, Eq)]
@@ -27,6 +28,20 @@ impl Ones {
             Ones::OfEither => first | second,
             Ones::OfFirstAlone => first ^ (first & second),
             Ones::OfNotFirst => first ^ u64::MAX,
+        }
+    }
+
+    /// Eight words, joined bit by bit.
+    pub fn lanes(self, first: u64x8, second: u64x8) -> u64x8
+        requires one { length first ≡ 8 }
+        requires two { length second ≡ 8 }
+        ensures { result ≡ zip2 (word_of self) first second }
+    {
+        match self {
+            Ones::OfBoth => first & second,
+            Ones::OfEither => first | second,
+            Ones::OfFirstAlone => first ^ (first & second),
+            Ones::OfNotFirst => first ^ u64x8::splat(u64::MAX),
         }
     }
 }

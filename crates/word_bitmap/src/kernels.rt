@@ -5,13 +5,20 @@ ghost use Rattle.word_bitmap.specs.Words.{spelled, word_of, chosen};
 ghost use lib.Lanes.{zip2};
 
 use crate::combine::Ones;
+use std::simd::prelude::*;
 
 /// Joins to each word the other list's word at its place.
 pub fn join_all(words: &mut [u64], others: &[u64], ones: Ones)
     requires { length words.old ≡ length others.now }
     ensures { words.new ≡ zip2 (word_of ones) words.old others.now }
 {
-    for i in 0..words.len() {
+    let whole = words.len() / 8;
+    for k in 0..whole {
+        let a = u64x8::from_slice(&words[8 * k..]);
+        let b = u64x8::from_slice(&others[8 * k..]);
+        ones.lanes(a, b).copy_to_slice(&mut words[8 * k..]);
+    }
+    for i in 8 * whole..words.len() {
         words[i] = ones.word(words[i], others[i]);
     }
 }

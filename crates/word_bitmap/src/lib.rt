@@ -1,5 +1,5 @@
-//! Bitmaps as words of 64 bits, of which equal neighbours are kept once. An operation costs the pieces of equal
-//! words, and not the bits.
+//! Bitmaps as words of 64 bits: many equal neighbours are kept once, as a fill, and others one by one, as literals. An
+//! operation costs the fills and the literals, and not the bits.
 #![tactic(auto)]
 
 mod bitmap;
