@@ -6,8 +6,11 @@ mod bitmaps;
 mod packets;
 mod turns;
 
-use std::env;
+use bitmaps::Spent;
+use runs_bitmap::RunsBitmap;
 use std::process::ExitCode;
+use std::{env, io};
+use word_bitmap::WordBitmap;
 
 const USAGE: &str =
     "measure turns THREADS TURNS, decode PACKETS, bitmaps BITS ONE_IN, batches ROWS ENCODES UNPACKS";
@@ -39,10 +42,12 @@ fn main(rt: HostRuntime) -> anyhow::Result<ExitCode> {
         let bits = words.next().and_then(|word| word.parse().ok());
         let one_in = words.next().and_then(|word| word.parse().ok());
         if let (Some(bits), Some(one_in)) = (bits, one_in) {
-            if let Some(spent) = bitmaps::measure(&rt, rt.alloc(), bits, one_in)? {
-                println!(rt; "append {}", spent.append.as_nanos())?;
-                println!(rt; "and {}", spent.and.as_nanos())?;
-                println!(rt; "ones {}", spent.ones)?;
+            let alloc = rt.alloc();
+            let runs = bitmaps::measure::<RunsBitmap, HostRuntime>(&rt, alloc, bits, one_in)?;
+            let words = bitmaps::measure::<WordBitmap, HostRuntime>(&rt, alloc, bits, one_in)?;
+            if let (Some(runs), Some(words)) = (runs, words) {
+                told(&rt, "runs", &runs)?;
+                told(&rt, "words", &words)?;
                 return Ok(ExitCode::SUCCESS);
             }
         }
@@ -60,4 +65,15 @@ fn main(rt: HostRuntime) -> anyhow::Result<ExitCode> {
     }
     println!(rt; "usage: {USAGE}")?;
     Ok(ExitCode::from(1))
+}
+
+// The lines of one form.
+fn told<R: Print>(rt: &R, form: &str, spent: &Spent) -> io::Result<()> {
+    println!(rt; "{form}-append {}", spent.append.as_nanos())?;
+    println!(rt; "{form}-and {}", spent.and.as_nanos())?;
+    println!(rt; "{form}-or {}", spent.or.as_nanos())?;
+    println!(rt; "{form}-not {}", spent.not.as_nanos())?;
+    println!(rt; "{form}-count {}", spent.count.as_nanos())?;
+    println!(rt; "{form}-walk {}", spent.walk.as_nanos())?;
+    println!(rt; "{form}-ones {}", spent.ones)
 }

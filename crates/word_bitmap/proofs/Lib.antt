@@ -3,3 +3,4 @@ pub mod WordLemmas
 pub mod PieceLemmas
 pub mod ShownLemmas
 pub mod NextLemmas
+pub mod LaneLemmas

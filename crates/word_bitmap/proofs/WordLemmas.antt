@@ -1,6 +1,7 @@
 -- Bits that words stand for.
 use Rattle.std.proofs.Common.{◌≡◌, ℕ, zero, suc, ◌+◌, ◌-◌, ◌*◌, ◌/◌, ◌%◌, ◌^◌, ◌<◌, ◌≤◌, min, max, Bool, true, false, cond, eqb, not, ◌⊎◌, ◌&&◌, ◌||◌, List, [], ◌∷◌, ◌++◌, map, length, get_or, replicate, refl, ap, sym, ◌∙◌, subst, inl, inr, arith, Some}
-use Rattle.std.specs.Prelude.{bit_and}
+use Rattle.std.specs.Prelude.{bit_and, bit_xor}
+use lib.Lanes.{zip2}
 use Rattle.std.specs.Int.{bit_at}
 use Rattle.std.proofs.lemmas.Bool.{cases_lt}
 use Rattle.std.proofs.lemmas.Nat.{shr-shr, shr_split, shl_whole, div-mul-add, mod-mul-add, pow-add, shr_below, mod-pow-add}
@@ -16,7 +17,7 @@ use Rattle.std.proofs.lemmas.Option.{slice_get-get_or}
 use Rattle.bits_law.specs.Bitwise.{bitwise, bits_below}
 use Rattle.bits_law.proofs.WordBits.{length_below, get_below}
 use Rattle.bits_law.proofs.BitwiseLemmas.{length-bitwise, get_or-bitwise, bitwise-append}
-use Rattle.word_bitmap.specs.Words.{spelled, joins, word_of}
+use Rattle.word_bitmap.specs.Words.{spelled, joins, word_of, chosen}
 use Rattle.word_bitmap.specs.declared.combine.Ones.{Ones}
 use Rattle.word_bitmap.specs.declared.combine.Ones.TheVariants.{OfBoth, OfEither, OfFirstAlone, OfNotFirst}
 
@@ -131,54 +132,146 @@ high_is a w t h same l m u =
     ∙ sym (shr-shr (a + w * 2 ^ t) t (64 - h))
     ∙ ap (λ v. v / 2 ^ (64 - h)) (ap (λ v. v / 2 ^ t) turn ∙ div-mul-add w (2 ^ t) a l)
 
+two : (n : ℕ) → n < 2 → (n ≡ 0) ⊎ (n ≡ 1)
+two zero l = inl refl
+two (suc zero) l = inr refl
+two (suc (suc n)) l = absurd (omega arith)
+
+both : (x y : ℕ) → x < 2 → y < 2 → eqb (min x y) 1 ≡ (eqb x 1 && eqb y 1)
+both x y l m = elim (two x l) [
+  | inl e ↦ rw e (elim (two y m) [ inl f ↦ rw f refl | inr f ↦ rw f refl ])
+  | inr e ↦ rw e (elim (two y m) [ inl f ↦ rw f refl | inr f ↦ rw f refl ])
+]
+
+either : (x y : ℕ) → x < 2 → y < 2 → eqb (max x y) 1 ≡ (eqb x 1 || eqb y 1)
+either x y l m = elim (two x l) [
+  | inl e ↦ rw e (elim (two y m) [ inl f ↦ rw f refl | inr f ↦ rw f refl ])
+  | inr e ↦ rw e (elim (two y m) [ inl f ↦ rw f refl | inr f ↦ rw f refl ])
+]
+
+first_alone : (x y : ℕ) → x < 2 → y < 2 → eqb ((x + min x y) % 2) 1 ≡ (eqb x 1 && not (eqb y 1))
+first_alone x y l m = elim (two x l) [
+  | inl e ↦ rw e (elim (two y m) [ inl f ↦ rw f refl | inr f ↦ rw f refl ])
+  | inr e ↦ rw e (elim (two y m) [ inl f ↦ rw f refl | inr f ↦ rw f refl ])
+]
+
+not_first : (x : ℕ) → x < 2 → eqb ((x + 1) % 2) 1 ≡ not (eqb x 1)
+not_first x l = elim (two x l) [ inl e ↦ rw e refl | inr e ↦ rw e refl ]
+
+pub one_bit : (k : Ones) (a b i : ℕ) → i < 64 → eqb (bit_at (word_of k a b) i) 1 ≡ joins k (eqb (bit_at a i) 1) (eqb (bit_at b i) 1)
+one_bit OfBoth a b i l = ap (λ x. eqb x 1) (bit_at_and a b i) ∙ both (bit_at a i) (bit_at b i) (bit_at-lt a i) (bit_at-lt b i)
+one_bit OfEither a b i l = ap (λ x. eqb x 1) (bit_at_or a b i) ∙ either (bit_at a i) (bit_at b i) (bit_at-lt a i) (bit_at-lt b i)
+one_bit OfFirstAlone a b i l =
+    ap (λ x. eqb x 1) (bit_at_xor a (bit_and a b) i)
+    ∙ ap (λ x. eqb ((bit_at a i + x) % 2) 1) (bit_at_and a b i)
+    ∙ first_alone (bit_at a i) (bit_at b i) (bit_at-lt a i) (bit_at-lt b i)
+one_bit OfNotFirst a b i l =
+    ap (λ x. eqb x 1) (bit_at_xor a (2 ^ 64 - 1) i)
+    ∙ ap (λ x. eqb ((bit_at a i + x) % 2) 1) (bit_at_ones 64 i l)
+    ∙ not_first (bit_at a i) (bit_at-lt a i)
+
 pub same_bits : (k : Ones) (a b n : ℕ) → n ≤ 64 → bits_below (word_of k a b) n ≡ bitwise (joins k) (bits_below a n) (bits_below b n)
 same_bits k a b n w =
     let long = length-bitwise (joins k) (bits_below a n) (bits_below b n) (length_below a n ∙ sym (length_below b n)) ∙ length_below a n in
     ext_get_or false (bits_below (word_of k a b) n) (bitwise (joins k) (bits_below a n) (bits_below b n)) (length_below (word_of k a b) n ∙ sym long) (λ i l.
     let under : i < n = omega (arith, length_below (word_of k a b) n) in
     get_below (word_of k a b) n i under
-    ∙ one_bit k i (omega arith)
+    ∙ one_bit k a b i (omega arith)
     ∙ ap (λ x. joins k x (eqb (bit_at b i) 1)) (sym (get_below a n i under))
     ∙ ap (joins k (get_or (bits_below a n) i false)) (sym (get_below b n i under))
     ∙ sym (get_or-bitwise (joins k) (bits_below a n) (bits_below b n) i (omega (arith, length_below a n)) (length_below a n ∙ sym (length_below b n))))
+
+-- a bit chosen by another
+pub chosen_bit : (z o x i : ℕ) → eqb (bit_at (chosen z o x) i) 1 ≡ cond (eqb (bit_at x i) 1) (eqb (bit_at o i) 1) (eqb (bit_at z i) 1)
+chosen_bit z o x i =
+    ap (λ b. eqb b 1) (bit_at_xor z (bit_and x (bit_xor z o)) i)
+    ∙ ap (λ b. eqb ((bit_at z i + b) % 2) 1) (bit_at_and x (bit_xor z o) i)
+    ∙ ap (λ b. eqb ((bit_at z i + min (bit_at x i) b) % 2) 1) (bit_at_xor z o i)
+    ∙ pick (bit_at z i) (bit_at o i) (bit_at x i) (bit_at-lt z i) (bit_at-lt o i) (bit_at-lt x i)
   where
-    two : (n : ℕ) → n < 2 → (n ≡ 0) ⊎ (n ≡ 1)
-    two zero l = inl refl
-    two (suc zero) l = inr refl
-    two (suc (suc n)) l = absurd (omega arith)
-
-    both : (x y : ℕ) → x < 2 → y < 2 → eqb (min x y) 1 ≡ (eqb x 1 && eqb y 1)
-    both x y l m = elim (two x l) [
-      | inl e ↦ rw e (elim (two y m) [ inl f ↦ rw f refl | inr f ↦ rw f refl ])
-      | inr e ↦ rw e (elim (two y m) [ inl f ↦ rw f refl | inr f ↦ rw f refl ])
+    pick : (z o x : ℕ) → z < 2 → o < 2 → x < 2 → eqb ((z + min x ((z + o) % 2)) % 2) 1 ≡ cond (eqb x 1) (eqb o 1) (eqb z 1)
+    pick z o x l m n = elim (two z l) [
+      | inl e ↦ rw e (elim (two o m) [ inl f ↦ rw f (elim (two x n) [ inl g ↦ rw g refl | inr g ↦ rw g refl ]) | inr f ↦ rw f (elim (two x n) [ inl g ↦ rw g refl | inr g ↦ rw g refl ]) ])
+      | inr e ↦ rw e (elim (two o m) [ inl f ↦ rw f (elim (two x n) [ inl g ↦ rw g refl | inr g ↦ rw g refl ]) | inr f ↦ rw f (elim (two x n) [ inl g ↦ rw g refl | inr g ↦ rw g refl ]) ])
     ]
 
-    either : (x y : ℕ) → x < 2 → y < 2 → eqb (max x y) 1 ≡ (eqb x 1 || eqb y 1)
-    either x y l m = elim (two x l) [
-      | inl e ↦ rw e (elim (two y m) [ inl f ↦ rw f refl | inr f ↦ rw f refl ])
-      | inr e ↦ rw e (elim (two y m) [ inl f ↦ rw f refl | inr f ↦ rw f refl ])
-    ]
+pub all_set : (i : ℕ) → i < 64 → eqb (bit_at (2 ^ 64 - 1) i) 1 ≡ true
+all_set i l = ap (λ x. eqb x 1) (bit_at_ones 64 i l)
 
-    first_alone : (x y : ℕ) → x < 2 → y < 2 → eqb ((x + min x y) % 2) 1 ≡ (eqb x 1 && not (eqb y 1))
-    first_alone x y l m = elim (two x l) [
-      | inl e ↦ rw e (elim (two y m) [ inl f ↦ rw f refl | inr f ↦ rw f refl ])
-      | inr e ↦ rw e (elim (two y m) [ inl f ↦ rw f refl | inr f ↦ rw f refl ])
-    ]
+pub none_set : (i : ℕ) → eqb (bit_at 0 i) 1 ≡ false
+none_set i = ap (λ x. eqb x 1) (bit_at-zero i)
 
-    not_first : (x : ℕ) → x < 2 → eqb ((x + 1) % 2) 1 ≡ not (eqb x 1)
-    not_first x l = elim (two x l) [ inl e ↦ rw e refl | inr e ↦ rw e refl ]
+picked : (f : Bool → Bool) (x : Bool) → cond x (f true) (f false) ≡ f x
+picked f true = refl
+picked f false = refl
 
-    one_bit : (k : Ones) (i : ℕ) → i < 64 → eqb (bit_at (word_of k a b) i) 1 ≡ joins k (eqb (bit_at a i) 1) (eqb (bit_at b i) 1)
-    one_bit OfBoth i l = ap (λ x. eqb x 1) (bit_at_and a b i) ∙ both (bit_at a i) (bit_at b i) (bit_at-lt a i) (bit_at-lt b i)
-    one_bit OfEither i l = ap (λ x. eqb x 1) (bit_at_or a b i) ∙ either (bit_at a i) (bit_at b i) (bit_at-lt a i) (bit_at-lt b i)
-    one_bit OfFirstAlone i l =
-        ap (λ x. eqb x 1) (bit_at_xor a (bit_and a b) i)
-        ∙ ap (λ x. eqb ((bit_at a i + x) % 2) 1) (bit_at_and a b i)
-        ∙ first_alone (bit_at a i) (bit_at b i) (bit_at-lt a i) (bit_at-lt b i)
-    one_bit OfNotFirst i l =
-        ap (λ x. eqb x 1) (bit_at_xor a (2 ^ 64 - 1) i)
-        ∙ ap (λ x. eqb ((bit_at a i + x) % 2) 1) (bit_at_ones 64 i l)
-        ∙ not_first (bit_at a i) (bit_at-lt a i)
+-- lists of bits of one word, by each bit
+same_below : (v a b : ℕ) (f : Bool → Bool → Bool) → ((i : ℕ) → i < 64 → eqb (bit_at v i) 1 ≡ f (eqb (bit_at a i) 1) (eqb (bit_at b i) 1)) → bits_below v 64 ≡ bitwise f (bits_below a 64) (bits_below b 64)
+same_below v a b f h =
+    let long = length-bitwise f (bits_below a 64) (bits_below b 64) (length_below a 64 ∙ sym (length_below b 64)) ∙ length_below a 64 in
+    ext_get_or false (bits_below v 64) (bitwise f (bits_below a 64) (bits_below b 64)) (length_below v 64 ∙ sym long) (λ i l.
+    let under : i < 64 = omega (arith, length_below v 64) in
+    get_below v 64 i under
+    ∙ h i under
+    ∙ ap (λ x. f x (eqb (bit_at b i) 1)) (sym (get_below a 64 i under))
+    ∙ ap (f (get_or (bits_below a 64) i false)) (sym (get_below b 64 i under))
+    ∙ sym (get_or-bitwise f (bits_below a 64) (bits_below b 64) i (omega (arith, length_below a 64)) (length_below a 64 ∙ sym (length_below b 64))))
+
+left_below : (k : Ones) (a x : ℕ) → bits_below (chosen (word_of k a 0) (word_of k a (2 ^ 64 - 1)) x) 64 ≡ bitwise (joins k) (bits_below a 64) (bits_below x 64)
+left_below k a x = same_below (chosen (word_of k a 0) (word_of k a (2 ^ 64 - 1)) x) a x (joins k) (λ i l.
+    chosen_bit (word_of k a 0) (word_of k a (2 ^ 64 - 1)) x i
+    ∙ ap (λ b. cond (eqb (bit_at x i) 1) b (eqb (bit_at (word_of k a 0) i) 1)) (one_bit k a (2 ^ 64 - 1) i l ∙ ap (joins k (eqb (bit_at a i) 1)) (all_set i l))
+    ∙ ap (λ b. cond (eqb (bit_at x i) 1) (joins k (eqb (bit_at a i) 1) true) b) (one_bit k a 0 i l ∙ ap (joins k (eqb (bit_at a i) 1)) (none_set i))
+    ∙ picked (joins k (eqb (bit_at a i) 1)) (eqb (bit_at x i) 1))
+
+right_below : (k : Ones) (b x : ℕ) → bits_below (chosen (word_of k 0 b) (word_of k (2 ^ 64 - 1) b) x) 64 ≡ bitwise (joins k) (bits_below x 64) (bits_below b 64)
+right_below k b x = same_below (chosen (word_of k 0 b) (word_of k (2 ^ 64 - 1) b) x) x b (joins k) (λ i l.
+    chosen_bit (word_of k 0 b) (word_of k (2 ^ 64 - 1) b) x i
+    ∙ ap (λ y. cond (eqb (bit_at x i) 1) y (eqb (bit_at (word_of k 0 b) i) 1)) (one_bit k (2 ^ 64 - 1) b i l ∙ ap (λ y. joins k y (eqb (bit_at b i) 1)) (all_set i l))
+    ∙ ap (λ y. cond (eqb (bit_at x i) 1) (joins k true (eqb (bit_at b i) 1)) y) (one_bit k 0 b i l ∙ ap (λ y. joins k y (eqb (bit_at b i) 1)) (none_set i))
+    ∙ picked (λ y. joins k y (eqb (bit_at b i) 1)) (eqb (bit_at x i) 1))
+
+-- lists of words, joined
+more_words : (f : Bool → Bool → Bool) (v a b : ℕ) (vs xs ys : List ℕ) → bits_below v 64 ≡ bitwise f (bits_below a 64) (bits_below b 64) → spelled vs ≡ bitwise f (spelled xs) (spelled ys) → spelled (v ∷ vs) ≡ bitwise f (spelled (a ∷ xs)) (spelled (b ∷ ys))
+more_words f v a b vs xs ys e h =
+    ap (λ bits. bits ++ spelled vs) e
+    ∙ ap (λ bits. bitwise f (bits_below a 64) (bits_below b 64) ++ bits) h
+    ∙ sym (bitwise-append f (bits_below a 64) (bits_below b 64) (spelled xs) (spelled ys) (length_below a 64 ∙ sym (length_below b 64)))
+
+pub zip_words : (k : Ones) (xs ys : List ℕ) → length xs ≡ length ys → spelled (zip2 (word_of k) xs ys) ≡ bitwise (joins k) (spelled xs) (spelled ys)
+zip_words k [] ys e = refl
+zip_words k (x ∷ xs) [] e = absurd (omega arith)
+zip_words k (x ∷ xs) (y ∷ ys) e = more_words (joins k) (word_of k x y) x y (zip2 (word_of k) xs ys) xs ys (same_bits k x y 64 (omega arith)) (zip_words k xs ys (omega arith))
+
+pub left_words : (k : Ones) (a n : ℕ) (ws : List ℕ) → n ≡ length ws → spelled (map (chosen (word_of k a 0) (word_of k a (2 ^ 64 - 1))) ws) ≡ bitwise (joins k) (spelled (replicate n a)) (spelled ws)
+left_words k a zero [] e = refl
+left_words k a (suc n) [] e = absurd (omega arith)
+left_words k a zero (w ∷ ws) e = absurd (omega arith)
+left_words k a (suc n) (w ∷ ws) e = more_words (joins k) (chosen (word_of k a 0) (word_of k a (2 ^ 64 - 1)) w) a w (map (chosen (word_of k a 0) (word_of k a (2 ^ 64 - 1))) ws) (replicate n a) ws (left_below k a w) (left_words k a n ws (omega arith))
+
+pub right_words : (k : Ones) (b n : ℕ) (ws : List ℕ) → n ≡ length ws → spelled (map (chosen (word_of k 0 b) (word_of k (2 ^ 64 - 1) b)) ws) ≡ bitwise (joins k) (spelled ws) (spelled (replicate n b))
+right_words k b zero [] e = refl
+right_words k b (suc n) [] e = absurd (omega arith)
+right_words k b zero (w ∷ ws) e = absurd (omega arith)
+right_words k b (suc n) (w ∷ ws) e = more_words (joins k) (chosen (word_of k 0 b) (word_of k (2 ^ 64 - 1) b) w) w b (map (chosen (word_of k 0 b) (word_of k (2 ^ 64 - 1) b)) ws) ws (replicate n b) (right_below k b w) (right_words k b n ws (omega arith))
+
+-- nothing to choose
+chosen_below : (z x : ℕ) → bits_below z 64 ≡ bits_below (chosen z z x) 64
+chosen_below z x =
+    ext_get_or false (bits_below z 64) (bits_below (chosen z z x) 64) (length_below z 64 ∙ sym (length_below (chosen z z x) 64)) (λ i l.
+    let under : i < 64 = omega (arith, length_below z 64) in
+    get_below z 64 i under
+    ∙ sym (picked (λ y. eqb (bit_at z i) 1) (eqb (bit_at x i) 1))
+    ∙ sym (chosen_bit z z x i)
+    ∙ sym (get_below (chosen z z x) 64 i under))
+
+pub chosen_none : (z o n : ℕ) (ws : List ℕ) → z ≡ o → n ≡ length ws → spelled (replicate n z) ≡ spelled (map (chosen z o) ws)
+chosen_none z o zero [] s e = refl
+chosen_none z o (suc n) [] s e = absurd (omega arith)
+chosen_none z o zero (w ∷ ws) s e = absurd (omega arith)
+chosen_none z o (suc n) (w ∷ ws) s e =
+    ap (λ bits. bits ++ spelled (replicate n z)) (chosen_below z w ∙ ap (λ o. bits_below (chosen z o w) 64) s)
+    ∙ ap (λ bits. bits_below (chosen z o w) 64 ++ bits) (chosen_none z o n ws s (omega arith))
 
 pub joined_words : (k : Ones) (n a b : ℕ) → bitwise (joins k) (spelled (replicate n a)) (spelled (replicate n b)) ≡ spelled (replicate n (word_of k a b))
 joined_words k zero a b = refl
@@ -186,20 +279,6 @@ joined_words k (suc n) a b =
     bitwise-append (joins k) (bits_below a 64) (bits_below b 64) (spelled (replicate n a)) (spelled (replicate n b)) (length_below a 64 ∙ sym (length_below b 64))
     ∙ ap (λ bits. bits ++ bitwise (joins k) (spelled (replicate n a)) (spelled (replicate n b))) (sym (same_bits k a b 64 (omega arith)))
     ∙ ap (λ bits. bits_below (word_of k a b) 64 ++ bits) (joined_words k n a b)
-
--- two lists of words, joined one stretch further
-pub combine_words : (k : Ones) (n a b : ℕ) (out left right : List ℕ) (all : List Bool) → spelled out ++ bitwise (joins k) (spelled (replicate n a ++ left)) (spelled (replicate n b ++ right)) ≡ all → spelled (out ++ replicate n (word_of k a b)) ++ bitwise (joins k) (spelled left) (spelled right) ≡ all
-combine_words k n a b out left right all h =
-    ap (λ bits. bits ++ bitwise (joins k) (spelled left) (spelled right)) (spelled-append out (replicate n (word_of k a b)))
-    ∙ append_assoc (spelled out) (spelled (replicate n (word_of k a b))) (bitwise (joins k) (spelled left) (spelled right))
-    ∙ ap (λ bits. spelled out ++ (bits ++ bitwise (joins k) (spelled left) (spelled right))) (sym (joined_words k n a b))
-    ∙ ap (λ bits. spelled out ++ bits) (sym (bitwise-append (joins k) (spelled (replicate n a)) (spelled (replicate n b)) (spelled left) (spelled right) even)
-    ∙ ap (λ bits. bitwise (joins k) bits (spelled (replicate n b) ++ spelled right)) (sym (spelled-append (replicate n a) left))
-    ∙ ap (bitwise (joins k) (spelled (replicate n a ++ left))) (sym (spelled-append (replicate n b) right)))
-    ∙ h
-  where
-    even : length (spelled (replicate n a)) ≡ length (spelled (replicate n b))
-    even = length_spelled (replicate n a) ∙ ap (λ m. 64 * m) (length-replicate n a ∙ sym (length-replicate n b)) ∙ sym (length_spelled (replicate n b))
 
 -- equal words after an unfinished one are equal words, turned, before it
 turn_words : (c w t k : ℕ) → c < 2 ^ t → w < 2 ^ 64 → t < 64 → c ≡ w / 2 ^ (64 - t) → bits_below c t ++ spelled (replicate k w) ≡ spelled (replicate k ((c + w * 2 ^ t % 2 ^ 128) % 2 ^ 64)) ++ bits_below c t
@@ -342,10 +421,14 @@ count_more left rest first ones more all e m h =
     let both = ap (λ ws. count_by (λ b. b) (spelled ws)) e ∙ ap (count_by (λ b. b)) (spelled-append first rest) ∙ count-append (spelled first) (spelled rest) in
     omega (arith, both, m, h)
 
-pub combine_more : (k : Ones) (n a b w : ℕ) (out new left right l r : List ℕ) (all : List Bool) → left ≡ replicate n a ++ l → right ≡ replicate n b ++ r → new ≡ out ++ replicate n w → w ≡ word_of k a b → spelled out ++ bitwise (joins k) (spelled left) (spelled right) ≡ all → spelled new ++ bitwise (joins k) (spelled l) (spelled r) ≡ all
-combine_more k n a b w out new left right l r all e f g v h =
-    ap (λ ws. spelled ws ++ bitwise (joins k) (spelled l) (spelled r)) (g ∙ ap (λ x. out ++ replicate n x) v)
-    ∙ combine_words k n a b out l r all (ap (λ ws. spelled out ++ bitwise (joins k) (spelled ws) (spelled (replicate n b ++ r))) (sym e) ∙ ap (λ ws. spelled out ++ bitwise (joins k) (spelled left) (spelled ws)) (sym f) ∙ h)
+pub combine_more : (k : Ones) (out new first second left right l r : List ℕ) (all : List Bool) → left ≡ first ++ l → right ≡ second ++ r → length first ≡ length second → spelled new ≡ spelled out ++ bitwise (joins k) (spelled first) (spelled second) → spelled out ++ bitwise (joins k) (spelled left) (spelled right) ≡ all → spelled new ++ bitwise (joins k) (spelled l) (spelled r) ≡ all
+combine_more k out new first second left right l r all e f even g h =
+    ap (λ bits. bits ++ bitwise (joins k) (spelled l) (spelled r)) g
+    ∙ append_assoc (spelled out) (bitwise (joins k) (spelled first) (spelled second)) (bitwise (joins k) (spelled l) (spelled r))
+    ∙ ap (λ bits. spelled out ++ bits) (sym (bitwise-append (joins k) (spelled first) (spelled second) (spelled l) (spelled r) (length_spelled first ∙ ap (λ n. 64 * n) even ∙ sym (length_spelled second)))
+    ∙ ap (λ bits. bitwise (joins k) bits (spelled second ++ spelled r)) (sym (spelled-append first l) ∙ ap spelled (sym e))
+    ∙ ap (bitwise (joins k) (spelled left)) (sym (spelled-append second r) ∙ ap spelled (sym f)))
+    ∙ h
 
 pub combine_end : (k : Ones) (out left right : List ℕ) (all : List Bool) → left ≡ [] → spelled out ++ bitwise (joins k) (spelled left) (spelled right) ≡ all → spelled out ≡ all
 combine_end k out left right all e h =
@@ -369,3 +452,28 @@ join_more old new left first rest all e f h =
     ∙ append_assoc old (spelled first) (spelled rest)
     ∙ ap (λ bits. old ++ bits) (sym (ap spelled e ∙ spelled-append first rest))
     ∙ h
+
+-- one more word behind an unfinished one
+pub shift_more : (out : List ℕ) (a w t : ℕ) (words left : List ℕ) (all : List Bool) → left ≡ w ∷ words → a < 2 ^ t → w < 2 ^ 64 → t < 64 → (spelled out ++ bits_below a t) ++ spelled left ≡ all → (spelled (out ++ (a + w * 2 ^ t % 2 ^ 128) % 2 ^ 64 ∷ []) ++ bits_below ((a + w * 2 ^ t % 2 ^ 128) / 2 ^ 64) t) ++ spelled words ≡ all
+shift_more out a w t words left all e l m u h =
+    let same : t + 64 - 64 ≡ t = omega arith in
+    ap (λ n. (spelled (out ++ (a + w * 2 ^ t % 2 ^ 128) % 2 ^ 64 ∷ []) ++ bits_below ((a + w * 2 ^ t % 2 ^ 128) / 2 ^ 64) n) ++ spelled words) (sym same)
+    ∙ ap (λ bits. bits ++ spelled words) (put_over (out ++ (a + w * 2 ^ t % 2 ^ 128) % 2 ^ 64 ∷ []) out a w t 64 1 refl refl l m (omega arith) u (omega arith))
+    ∙ append_assoc (spelled out ++ bits_below a t) (bits_below w 64) (spelled words)
+    ∙ ap (λ ws. (spelled out ++ bits_below a t) ++ spelled ws) (sym e)
+    ∙ h
+
+pub high_again : (a w t : ℕ) → a < 2 ^ t → w < 2 ^ 64 → t < 64 → (a + w * 2 ^ t % 2 ^ 128) / 2 ^ 64 < 2 ^ t
+high_again a w t l m u =
+    let same : t + 64 - 64 ≡ t = omega arith in
+    subst (λ n. (a + w * 2 ^ t % 2 ^ 128) / 2 ^ 64 < 2 ^ n) same (high_small a w t 64 l m (omega arith) u (omega arith))
+
+pub nothing_left : (bits all : List Bool) (left : List ℕ) → left ≡ [] → bits ++ spelled left ≡ all → bits ≡ all
+nothing_left bits all left e h = sym (append-nil bits) ∙ ap (λ ws. bits ++ spelled ws) (sym e) ∙ h
+
+-- ones of a list of words, one word at a time
+pub count_one_more : (ws left rest : List ℕ) (w ones : ℕ) → left ≡ w ∷ rest → w < 2 ^ 64 → ones + count_by (λ b. b) (spelled left) ≡ count_by (λ b. b) (spelled ws) → (ones + count_ones w + count_by (λ b. b) (spelled rest) ≡ count_by (λ b. b) (spelled ws)) × (count_ones w ≤ 64)
+count_one_more ws left rest w ones e l h =
+    let f = count_first 1 w rest l in
+    let same = ap (λ xs. count_by (λ b. b) (spelled xs)) e in
+    (omega (arith, f.0, same, h), omega (arith, f.1))

@@ -3,6 +3,7 @@ ghost use Rattle.bits_law.specs.Bitwise.{bits_below};
 ghost use Rattle.bits_law.specs.Refusal.{refusal};
 
 use crate::combine::Ones;
+use crate::pieces::Pieces;
 use crate::words;
 use crate::words::Words;
 use bits_law::{Bits, BitsEnd, LONGEST};
@@ -33,8 +34,7 @@ impl Bits for WordBitmap {
     fn empty(alloc: Global) -> Self {
         WordBitmap {
             words: Words {
-                pieces: Vec::new(alloc),
-                full: 0,
+                pieces: Pieces::new(alloc),
                 last: 0,
                 held: 0,
             },
@@ -54,7 +54,7 @@ impl Bits for WordBitmap {
         if n > LONGEST - have {
             return Err(BitsEnd::TooLong { have, more: n });
         }
-        self.words.pieces.reserve(3)?;
+        self.words.pieces.reserve(3, 8)?;
         self.words.extend(bit, n);
         Ok(())
     }
@@ -72,7 +72,7 @@ impl Bits for WordBitmap {
         if n > LONGEST - have {
             return Err(BitsEnd::TooLong { have, more: n });
         }
-        self.words.pieces.reserve(1)?;
+        self.words.pieces.reserve(1, 0)?;
         self.words.put(words::low(word, n), n);
         Ok(())
     }

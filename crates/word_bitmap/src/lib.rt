@@ -1,11 +1,13 @@
-//! Bitmaps as words of 64 bits, of which equal neighbours are kept once. An operation costs the pieces of equal
-//! words, and not the bits.
+//! Bitmaps as words of 64 bits: many equal neighbours are kept once, as a fill, and others one by one, as literals. An
+//! operation costs the fills and the literals, and not the bits.
 #![tactic(auto)]
 
 mod bitmap;
 mod combine;
-mod edits;
+mod kernels;
 mod piece;
+mod pieces;
+mod reads;
 mod words;
 
 pub use bitmap::WordBitmap;

@@ -1,11 +1,12 @@
-ghost use Rattle.std.specs.Prelude.{◌≡◌, ◌+◌, ◌-◌, ◌*◌, ◌/◌, ◌^◌, ◌<◌, ◌≤◌, ◌++◌, ◌∷◌, [], replicate, IfOk, OnOk, OnErr, if◌then◌else◌, ◌%◌, vec_len, vec_capacity, length, get_or, count_by, MatchOption, List, Bool};
+ghost use Rattle.std.specs.Prelude.{◌≡◌, ◌+◌, ◌-◌, ◌*◌, ◌/◌, ◌^◌, ◌<◌, ◌≤◌, ◌++◌, ◌∷◌, [], replicate, IfOk, OnOk, OnErr, if◌then◌else◌, ◌%◌, vec_len, vec_capacity, length, get_or, count_by, MatchOption, List, Bool, min};
 ghost use Rattle.bits_law.specs.Bitwise.{bitwise, bits_below, IsNextOne, IsClearFrom};
-ghost use Rattle.word_bitmap.specs.Words.{IsSound, shown, spelled, words_from, joins};
+ghost use Rattle.word_bitmap.specs.Words.{IsSound, IsLaid, shown, spelled, words_of, joins, part, need, Within};
 
+use crate::combine;
 use crate::combine::Ones;
-use crate::edits;
-use crate::piece::Piece;
-use std::alloc::{AllocError, Global};
+use crate::piece::Kind;
+use crate::pieces::Pieces;
+use std::alloc::AllocError;
 
 /// The `n` lowest bits of a word.
 pub fn low(word: u64, n: u64) -> u64
@@ -23,11 +24,10 @@ fn filled(bit: bool) -> u64
     if bit { u64::MAX } else { 0 }
 }
 
-/// Whole words as pieces of equal ones, and an unfinished word of `held` bits.
+/// Whole words as pieces, and an unfinished word of `held` bits.
 #[derive(Drop)]
 pub struct Words {
-    pub pieces: Vec<Piece>,
-    pub full: u64,
+    pub pieces: Pieces,
     pub last: u64,
     pub held: u64,
 }
@@ -37,9 +37,9 @@ impl Words {
     pub fn len(&self) -> u64
         requires { IsSound self.now }
         ensures value { result ≡ length (shown self.now) }
-        ensures is { result ≡ 64 * self.now.full + self.now.held }
+        ensures is { result ≡ 64 * self.now.pieces.end + self.now.held }
     {
-        64 * self.full + self.held
+        64 * self.pieces.end + self.held
     }
 
     /// Appends a word of `n` bits.
@@ -47,14 +47,17 @@ impl Words {
         requires sound { IsSound self.old }
         requires wide { n ≤ 64 }
         requires word { word < 2 ^ n }
-        requires short { 64 * self.old.full + self.old.held + n ≤ 2 ^ 40 }
-        requires room { vec_len self.old.pieces + 1 ≤ vec_capacity self.old.pieces }
+        requires short { 64 * self.old.pieces.end + self.old.held + n ≤ 2 ^ 40 }
+        requires list { vec_len self.old.pieces.list + 1 ≤ vec_capacity self.old.pieces.list }
+        requires literals { vec_len self.old.pieces.literals + min 7 (self.old.pieces.end - self.old.pieces.closed) ≤ vec_capacity self.old.pieces.literals }
         ensures bits { shown self.new ≡ shown self.old ++ bits_below word n }
         ensures sound { IsSound self.new }
-        ensures len { 64 * self.new.full + self.new.held ≡ 64 * self.old.full + self.old.held + n }
+        ensures len { 64 * self.new.pieces.end + self.new.held ≡ 64 * self.old.pieces.end + self.old.held + n }
         ensures rest { n ≡ 64 → self.new.last ≡ word / 2 ^ (64 - self.new.held) }
-        ensures pieces { vec_len self.new.pieces ≤ vec_len self.old.pieces + 1 }
-        ensures capacity { vec_capacity self.old.pieces ≤ vec_capacity self.new.pieces }
+        ensures list { vec_len self.new.pieces.list ≤ vec_len self.old.pieces.list + 1 }
+        ensures list_capacity { vec_capacity self.old.pieces.list ≤ vec_capacity self.new.pieces.list }
+        ensures literals { vec_len self.new.pieces.literals + min 7 (self.new.pieces.end - self.new.pieces.closed) ≤ vec_len self.old.pieces.literals + min 7 (self.old.pieces.end - self.old.pieces.closed) + 1 }
+        ensures literals_capacity { vec_capacity self.old.pieces.literals ≤ vec_capacity self.new.pieces.literals }
     {
         let joined = self.last as u128 + ((word as u128) << self.held);
         let total = self.held + n;
@@ -63,8 +66,8 @@ impl Words {
             self.last = low;
             self.held = total;
         } else {
-            edits::extend(&mut self.pieces, self.full, low, self.full + 1).unwrap();
-            self.full += 1;
+            let to = self.pieces.end + 1;
+            self.pieces.extend(low, to);
             self.last = (joined >> 64) as u64;
             self.held = total - 64;
         }
@@ -73,13 +76,16 @@ impl Words {
     /// Appends `count` equal words.
     pub fn repeat(&mut self, word: u64, count: u64)
         requires sound { IsSound self.old }
-        requires short { 64 * self.old.full + self.old.held + 64 * count ≤ 2 ^ 40 }
-        requires room { vec_len self.old.pieces + 2 ≤ vec_capacity self.old.pieces }
+        requires short { 64 * self.old.pieces.end + self.old.held + 64 * count ≤ 2 ^ 40 }
+        requires list { vec_len self.old.pieces.list + 2 ≤ vec_capacity self.old.pieces.list }
+        requires literals { vec_len self.old.pieces.literals + min 7 (self.old.pieces.end - self.old.pieces.closed) + 1 ≤ vec_capacity self.old.pieces.literals }
         ensures bits { shown self.new ≡ shown self.old ++ spelled (replicate count word) }
         ensures sound { IsSound self.new }
-        ensures len { 64 * self.new.full + self.new.held ≡ 64 * self.old.full + self.old.held + 64 * count }
-        ensures pieces { vec_len self.new.pieces ≤ vec_len self.old.pieces + 2 }
-        ensures capacity { vec_capacity self.old.pieces ≤ vec_capacity self.new.pieces }
+        ensures len { 64 * self.new.pieces.end + self.new.held ≡ 64 * self.old.pieces.end + self.old.held + 64 * count }
+        ensures list { vec_len self.new.pieces.list ≤ vec_len self.old.pieces.list + 2 }
+        ensures list_capacity { vec_capacity self.old.pieces.list ≤ vec_capacity self.new.pieces.list }
+        ensures literals { vec_len self.new.pieces.literals + min 7 (self.new.pieces.end - self.new.pieces.closed) ≤ vec_len self.old.pieces.literals + min 7 (self.old.pieces.end - self.old.pieces.closed) + 8 }
+        ensures literals_capacity { vec_capacity self.old.pieces.literals ≤ vec_capacity self.new.pieces.literals }
     {
         if count == 0 {
             return;
@@ -90,9 +96,8 @@ impl Words {
         }
         let again = self.last as u128 + ((word as u128) << self.held);
         let turned = (again % (1 << 64)) as u64;
-        let to = self.full + (count - 1);
-        edits::extend(&mut self.pieces, self.full, turned, to).unwrap();
-        self.full = to;
+        let to = self.pieces.end + (count - 1);
+        self.pieces.extend(turned, to);
     }
 }
 
@@ -100,8 +105,9 @@ impl Words {
     /// Appends `n` equal bits.
     pub fn extend(&mut self, bit: bool, n: u64)
         requires sound { IsSound self.old }
-        requires short { 64 * self.old.full + self.old.held + n ≤ 2 ^ 40 }
-        requires room { vec_len self.old.pieces + 3 ≤ vec_capacity self.old.pieces }
+        requires short { 64 * self.old.pieces.end + self.old.held + n ≤ 2 ^ 40 }
+        requires list { vec_len self.old.pieces.list + 3 ≤ vec_capacity self.old.pieces.list }
+        requires literals { vec_len self.old.pieces.literals + min 7 (self.old.pieces.end - self.old.pieces.closed) + 8 ≤ vec_capacity self.old.pieces.literals }
         ensures bits { shown self.new ≡ shown self.old ++ replicate n bit }
         ensures sound { IsSound self.new }
     {
@@ -114,30 +120,71 @@ impl Words {
     pub fn join(&mut self, other: &Words) -> Result<(), AllocError>
         requires one { IsSound self.old }
         requires two { IsSound other.now }
-        requires short { 64 * self.old.full + self.old.held + (64 * other.now.full + other.now.held) ≤ 2 ^ 40 }
+        requires short { 64 * self.old.pieces.end + self.old.held + (64 * other.now.pieces.end + other.now.held) ≤ 2 ^ 40 }
         ensures bits { OnOk result (shown self.new ≡ shown self.old ++ shown other.now) }
         ensures sound { IsSound self.new }
         ensures err { OnErr result (shown self.new ≡ shown self.old) }
     {
-        self.pieces.reserve(2 * other.pieces.len() + 1)?;
+        let needed = other.pieces.literals_needed()?;
+        let count = other.pieces.list.len();
+        self.pieces.reserve(2 * count + 3, needed + 1)?;
         let mut at = 0;
-        for piece in &other.pieces {
-            self.repeat(piece.word, piece.end - at);
+        for i in 0..count + 1 {
+            let piece = other.pieces.piece(i);
+            self.join_part(&other.pieces, piece.kind, at, piece.end);
             at = piece.end;
         }
         self.put(other.last, other.held);
         Ok(())
     }
 
+    /// Appends the words of a piece from word `at` up to word `to`.
+    fn join_part(&mut self, pieces: &Pieces, kind: Kind, at: u64, to: u64)
+        requires sound { IsSound self.old }
+        requires order { at ≤ to }
+        requires within { Within (length pieces.now.literals.items) kind at to }
+        requires short { 64 * self.old.pieces.end + self.old.held + 64 * (to - at) ≤ 2 ^ 40 }
+        requires list { vec_len self.old.pieces.list + 2 ≤ vec_capacity self.old.pieces.list }
+        requires literals { vec_len self.old.pieces.literals + min 7 (self.old.pieces.end - self.old.pieces.closed) + need kind (to - at) ≤ vec_capacity self.old.pieces.literals }
+        ensures bits { shown self.new ≡ shown self.old ++ spelled (part pieces.now.literals.items kind at to) }
+        ensures sound { IsSound self.new }
+        ensures len { 64 * self.new.pieces.end + self.new.held ≡ 64 * self.old.pieces.end + self.old.held + 64 * (to - at) }
+        ensures list { vec_len self.new.pieces.list ≤ vec_len self.old.pieces.list + 2 }
+        ensures list_capacity { vec_capacity self.old.pieces.list ≤ vec_capacity self.new.pieces.list }
+        ensures literals { vec_len self.new.pieces.literals + min 7 (self.new.pieces.end - self.new.pieces.closed) ≤ vec_len self.old.pieces.literals + min 7 (self.old.pieces.end - self.old.pieces.closed) + need kind (to - at) }
+        ensures literals_capacity { vec_capacity self.old.pieces.literals ≤ vec_capacity self.new.pieces.literals }
+    {
+        match kind {
+            Kind::Fill(word) => self.repeat(word, to - at),
+            Kind::Literal(skipped) => self.put_all(pieces.stretch_of(skipped, at, to)),
+        }
+    }
+
+    /// Appends words.
+    fn put_all(&mut self, words: &[u64])
+        requires sound { IsSound self.old }
+        requires short { 64 * self.old.pieces.end + self.old.held + 64 * length words.now ≤ 2 ^ 40 }
+        requires list { vec_len self.old.pieces.list + 2 ≤ vec_capacity self.old.pieces.list }
+        requires literals { vec_len self.old.pieces.literals + min 7 (self.old.pieces.end - self.old.pieces.closed) + length words.now ≤ vec_capacity self.old.pieces.literals }
+        ensures bits { shown self.new ≡ shown self.old ++ spelled words.now }
+        ensures sound { IsSound self.new }
+        ensures len { 64 * self.new.pieces.end + self.new.held ≡ 64 * self.old.pieces.end + self.old.held + 64 * length words.now }
+        ensures list { vec_len self.new.pieces.list ≤ vec_len self.old.pieces.list + 2 }
+        ensures list_capacity { vec_capacity self.old.pieces.list ≤ vec_capacity self.new.pieces.list }
+        ensures literals { vec_len self.new.pieces.literals + min 7 (self.new.pieces.end - self.new.pieces.closed) ≤ vec_len self.old.pieces.literals + min 7 (self.old.pieces.end - self.old.pieces.closed) + length words.now }
+        ensures literals_capacity { vec_capacity self.old.pieces.literals ≤ vec_capacity self.new.pieces.literals }
+    {
+        self.last = self.pieces.add_shifted(words, self.last, self.held);
+    }
+
     /// The word at `index`, which may be the unfinished one.
     pub fn word(&self, index: u64) -> u64
         requires sound { IsSound self.now }
-        requires within { index ≤ self.now.full }
-        ensures { result ≡ get_or (words_from 0 self.now.pieces.items ++ self.now.last ∷ []) index 0 }
+        requires within { index ≤ self.now.pieces.end }
+        ensures { result ≡ get_or (words_of self.now.pieces ++ self.now.last ∷ []) index 0 }
     {
-        let k = edits::ended_by(&self.pieces, index);
-        if k < self.pieces.len() {
-            self.pieces[k].word
+        if index < self.pieces.end {
+            self.pieces.word_at(index)
         } else {
             self.last
         }
@@ -148,19 +195,17 @@ impl Words {
         requires { IsSound self.now }
         ensures { result ≡ count_by (λ bit. bit) (shown self.now) }
     {
-        edits::ones(&self.pieces, self.full) + self.last.count_ones() as u64
+        self.pieces.count() + self.last.count_ones() as u64
     }
 
     /// An equal copy.
     pub fn duplicate(&self) -> Result<Words, AllocError>
-        ensures pieces { IfOk result (λ w. w.pieces.items ≡ self.now.pieces.items) }
-        ensures full { IfOk result (λ w. w.full ≡ self.now.full) }
-        ensures last { IfOk result (λ w. w.last ≡ self.now.last) }
-        ensures held { IfOk result (λ w. w.held ≡ self.now.held) }
+        requires sound { IsSound self.now }
+        ensures sound { IfOk result (λ w. IsSound w) }
+        ensures bits { IfOk result (λ w. shown w ≡ shown self.now) }
     {
         Ok(Words {
-            pieces: Vec::from_slice(*self.pieces.allocator(), &self.pieces)?,
-            full: self.full,
+            pieces: self.pieces.duplicate()?,
             last: self.last,
             held: self.held,
         })
@@ -174,17 +219,10 @@ impl Words {
         ensures sound { IfOk result (λ w. IsSound w) }
         ensures bits { IfOk result (λ w. shown w ≡ bitwise (joins ones) (shown self.now) (shown other.now)) }
     {
-        let pieces = edits::combined(
-            *self.pieces.allocator(),
-            &self.pieces,
-            &other.pieces,
-            self.full,
-            ones,
-        )?;
+        let pieces = combine::combined(&self.pieces, &other.pieces, ones)?;
         let last = low(ones.word(self.last, other.last), self.held);
         Ok(Words {
             pieces,
-            full: self.full,
             last,
             held: self.held,
         })
@@ -203,10 +241,10 @@ impl Words {
         if rest != 0 {
             return Some(from + rest.trailing_zeros() as u64);
         }
-        if index == self.full {
+        if index == self.pieces.end {
             return None;
         }
-        let at = edits::next_set(&self.pieces, index + 1, self.full);
+        let at = self.pieces.next_set(index + 1);
         let word = self.word(at);
         if word != 0 {
             Some(64 * at + word.trailing_zeros() as u64)

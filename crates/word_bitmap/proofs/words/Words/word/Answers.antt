@@ -1,17 +1,17 @@
-use Rattle.std.proofs.Common.{length, ap, [], ◌∷◌, arith}
-use Rattle.word_bitmap.proofs.PieceLemmas.{partitioned, word_found, last_found}
+use Rattle.std.proofs.Common.{◌≡◌, [], ◌∷◌, length, ap, sym, ◌∙◌, get_or, ◌++◌, arith}
+use Rattle.std.proofs.lemmas.List.{get_or_append_left}
+use Rattle.std.proofs.Math.Seq.{get_or-append_seam}
+use Rattle.word_bitmap.specs.Words.{words_of}
+use Rattle.word_bitmap.proofs.PieceLemmas.{length_all}
 use Rattle.word_bitmap.proofs.words.Words.word.Goals as goal
 
-pub ended_by-k-requires : goal.ended_by-k-requires
-ended_by-k-requires c = rw c.deref.ensures.value (partitioned 0 c.args.self.now.pieces.items c.args.index c.requires.sound.rising)
-
-pub returns-then-k-len : goal.returns-then-k-len
-returns-then-k-len c =
+pub returns-then-index-self : goal.returns-then-index-self
+returns-then-index-self c =
     let w = c.args.self.now in
-    word_found w.pieces.items c.args.index c.ended_by-k.result c.index.result.now (w.last ∷ []) c.requires.sound.rising (omega (arith, c.if-k-len.true, c.len.ensures)) (rw c.deref.ensures.value at c.ended_by-k.ensures.place) c.index.ensures
+    c.word_at.ensures ∙ sym (get_or_append_left (words_of w.pieces) (w.last ∷ []) 0 c.args.index (omega (arith, length_all w.pieces c.requires.sound.pieces, c.if-index-self.true)))
 
-pub returns-else-k-len : goal.returns-else-k-len
-returns-else-k-len c =
+pub returns-else-index-self : goal.returns-else-index-self
+returns-else-index-self c =
     let w = c.args.self.now in
-    let same = ap length c.deref.ensures.value in
-    last_found w.pieces.items c.args.index c.ended_by-k.result w.last w.full c.requires.sound.rising (omega (arith, c.ended_by-k.ensures.within, same)) (omega (arith, c.if-k-len.false, c.len.ensures)) (rw c.deref.ensures.value at c.ended_by-k.ensures.place) c.requires.sound.full c.requires.within
+    let here : length (words_of w.pieces) ≡ c.args.index = omega (arith, length_all w.pieces c.requires.sound.pieces, c.if-index-self.false, c.requires.within) in
+    sym (get_or-append_seam (words_of w.pieces) w.last [] 0) ∙ ap (λ i. get_or (words_of w.pieces ++ w.last ∷ []) i 0) here
