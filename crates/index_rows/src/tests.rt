@@ -541,3 +541,58 @@ fn blocks_of_rows(rt: HostRuntime) -> Result<(), Fail> {
     blocks_at_each_remainder::<WordBitmap, HostRuntime>(&rt)?;
     Ok(())
 }
+
+/// A bitmap of the multiples of a number.
+fn multiples<B: Bits>(alloc: Global, rows: u64, of: u64) -> Result<B, BitsEnd>
+    requires { 0 < of }
+{
+    let mut bits = B::empty(alloc);
+    for row in 0..rows {
+        bits.push_run(row % of == 0, 1)?;
+    }
+    Ok(bits)
+}
+
+/// Of 1,000 rows the multiples of 3 and those of 5, joined.
+fn multiples_joined<B: Bits, R: Abort + AllocGlobal>(rt: &R) -> Result<(), BitsEnd> {
+    let a = multiples::<B>(rt.alloc(), 1_000, 3)?;
+    let b = multiples::<B>(rt.alloc(), 1_000, 5)?;
+    assert_eq!(rt; a.count(), 334);
+    assert_eq!(rt; b.count(), 200);
+    if a.len() == b.len() {
+        assert_eq!(rt; a.and(&b)?.count(), 67);
+        assert_eq!(rt; a.or(&b)?.count(), 467);
+        assert_eq!(rt; a.and_not(&b)?.count(), 267);
+    }
+    assert_eq!(rt; a.not()?.count(), 666);
+    Ok(())
+}
+
+/// Runs of zeros and ones that end at each side of a block's end, and what is joined of them.
+fn runs_at_block_ends<B: Bits, R: Abort + AllocGlobal>(rt: &R) -> Result<(), BitsEnd> {
+    for rows in [0, 1, 63, 64, 65, 127, 128, 1_000] {
+        let mut bits = B::empty(rt.alloc());
+        bits.push_run(false, rows)?;
+        bits.push_run(true, rows)?;
+        bits.push_word(5, 3)?;
+        let turned = bits.not()?;
+        assert_eq!(rt; bits.count(), rows + 2);
+        assert_eq!(rt; turned.count(), rows + 1);
+        assert_eq!(rt; bits.next_one(0), Some(rows));
+        assert_eq!(rt; turned.next_one(rows), Some(rows + rows + 1));
+        if bits.len() == turned.len() {
+            assert_eq!(rt; bits.and(&turned)?.next_one(0), None);
+            assert_eq!(rt; bits.or(&turned)?.count(), rows + rows + 3);
+        }
+    }
+    Ok(())
+}
+
+#[test]
+fn bitmaps(rt: HostRuntime) -> Result<(), Fail> {
+    multiples_joined::<RunsBitmap, HostRuntime>(&rt)?;
+    multiples_joined::<WordBitmap, HostRuntime>(&rt)?;
+    runs_at_block_ends::<RunsBitmap, HostRuntime>(&rt)?;
+    runs_at_block_ends::<WordBitmap, HostRuntime>(&rt)?;
+    Ok(())
+}
