@@ -559,6 +559,7 @@ fn multiples_joined<B: Bits, R: Abort + AllocGlobal>(rt: &R) -> Result<(), BitsE
     let b = multiples::<B>(rt.alloc(), 1_000, 5)?;
     assert_eq!(rt; a.count(), 334);
     assert_eq!(rt; b.count(), 200);
+    assert_eq!(rt; a.len(), b.len());
     if a.len() == b.len() {
         assert_eq!(rt; a.and(&b)?.count(), 67);
         assert_eq!(rt; a.or(&b)?.count(), 467);
@@ -580,6 +581,7 @@ fn runs_at_block_ends<B: Bits, R: Abort + AllocGlobal>(rt: &R) -> Result<(), Bit
         assert_eq!(rt; turned.count(), rows + 1);
         assert_eq!(rt; bits.next_one(0), Some(rows));
         assert_eq!(rt; turned.next_one(rows), Some(rows + rows + 1));
+        assert_eq!(rt; bits.len(), turned.len());
         if bits.len() == turned.len() {
             assert_eq!(rt; bits.and(&turned)?.next_one(0), None);
             assert_eq!(rt; bits.or(&turned)?.count(), rows + rows + 3);
