@@ -4,7 +4,7 @@ use Rattle.std.specs.Prelude.{bit_or}
 use Rattle.std.proofs.lemmas.Bool.{cases_eq, cases_lt}
 use Rattle.std.proofs.lemmas.Nat.{same_from_place, mul-add-lt, div-add-mod', mod_below, div_below}
 use Rattle.std.proofs.Math.Nat.{mul-le-mul_right}
-use Rattle.std.proofs.lemmas.List.{length-set, get_or-set_same, get_or-set_other, get_or_past}
+use Rattle.std.proofs.lemmas.List.{length-set, get_or-set_same, get_or-set_other, get_or_past, length-append, get_or_append_left, get_or-append_right}
 use Rattle.bits_law.specs.Contents.{IsJoined}
 use Rattle.bits_law.specs.Numbers.{has_bit}
 use Rattle.bits_law.specs.Blocks.{blocks, cell, line_of, held, IsLaid, IsMerged, IsExtended}
@@ -279,3 +279,51 @@ join_inside other stride rows more size i some long is l =
     let at : (rows + 64 * (i / stride)) / 64 + 1 ≤ blocks (rows + more) = omega arith in
     let all : ((rows + 64 * (i / stride)) / 64 + 1) * stride ≤ blocks (rows + more) * stride = mul-le-mul_right stride at in
     omega arith
+
+-- the blocks of another table are copied behind whole blocks
+module _ (old other : List ℕ) (width rows more : ℕ) (whole : rows % 64 ≡ 0) (laid : IsLaid old (width + 1) rows) where
+  whole_long : length old ≡ rows / 64 * (width + 1)
+  whole_long = let same : blocks rows ≡ rows / 64 = omega arith in laid.long ∙ ap (λ n. n * (width + 1)) same
+
+  first_blocks : (line row : ℕ) → line < width + 1 → row < rows → cell (old ++ other) (width + 1) line row ≡ cell old (width + 1) line row
+  first_blocks line row l u =
+      let block : row / 64 + 1 ≤ rows / 64 = omega arith in
+      let all : (row / 64 + 1) * (width + 1) ≤ rows / 64 * (width + 1) = mul-le-mul_right (width + 1) block in
+      ap (λ w. has_bit w (row % 64)) (get_or_append_left old other 0 (row / 64 * (width + 1) + line) (omega (arith, whole_long)))
+
+  more_blocks : (line row : ℕ) → cell (old ++ other) (width + 1) line (rows + row) ≡ cell other (width + 1) line row
+  more_blocks line row =
+      let block : (rows + row) / 64 ≡ rows / 64 + row / 64 = omega arith in
+      let at : (rows + row) % 64 ≡ row % 64 = omega arith in
+      let place : (rows + row) / 64 * (width + 1) + line ≡ rows / 64 * (width + 1) + (row / 64 * (width + 1) + line) = ap (λ b. b * (width + 1) + line) block ∙ omega arith in
+      let rest : (rows + row) / 64 * (width + 1) + line - rows / 64 * (width + 1) ≡ row / 64 * (width + 1) + line = omega arith in
+      ap (has_bit (get_or (old ++ other) ((rows + row) / 64 * (width + 1) + line) 0)) at
+      ∙ ap (λ w. has_bit w (row % 64)) (get_or-append_right old other (rows / 64 * (width + 1)) ((rows + row) / 64 * (width + 1) + line) 0 whole_long (omega arith) ∙ ap (λ k. get_or other k 0) rest)
+
+  behind_is : (line : ℕ) → line < width + 1 → line_of (old ++ other) (width + 1) (rows + more) line ≡ line_of old (width + 1) rows line ++ line_of other (width + 1) more line
+  behind_is line l = line_joined old other (old ++ other) (width + 1) line rows more (λ i u. first_blocks line i l u) (λ i u. more_blocks line i)
+
+  pub behind_joined : IsJoined (held old width rows) (held other width more) (held (old ++ other) width (rows + more))
+  behind_joined = record {
+    present = behind_is 0 (omega arith);
+    each = record {
+      wide = held_wide (old ++ other) width (rows + more) ∙ sym (held_wide old width rows);
+      column = λ j u.
+          let under : j < width = omega (arith, held_wide old width rows) in
+          held_column (old ++ other) width (rows + more) j under
+          ∙ behind_is (j + 1) (omega arith)
+          ∙ ap (λ xs. xs ++ line_of other (width + 1) more (j + 1)) (sym (held_column old width rows j under))
+          ∙ ap (λ xs. get_or (held old width rows).columns j [] ++ xs) (sym (held_column other width more j under));
+    };
+  }
+
+  pub behind_laid : IsLaid other (width + 1) more → rows + more ≤ 2 ^ 40 → IsLaid (old ++ other) (width + 1) (rows + more)
+  behind_laid other_laid short =
+      let both : blocks (rows + more) ≡ rows / 64 + blocks more = omega arith in
+      record {
+        long = length-append old other ∙ omega (arith, whole_long, other_laid.long) ∙ ap (λ n. n * (width + 1)) (sym both);
+        clear = λ line row l u.
+            let back : rows + (row - rows) ≡ row = omega arith in
+            ap (cell (old ++ other) (width + 1) line) (sym back) ∙ more_blocks line (row - rows) ∙ other_laid.clear line (row - rows) l (omega arith);
+        short = short;
+      }

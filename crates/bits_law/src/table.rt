@@ -159,6 +159,11 @@ impl<B: Bits> Table<B> {
             return Err(BitsEnd::TooLong { have, more });
         }
         let stride = table.width + 1;
+        if table.rows % 64 == 0 {
+            table.words.extend_from_slice(&other.words)?;
+            table.rows += other.rows;
+            return Ok(table);
+        }
         grow(&mut table.words, stride, table.rows + other.rows)?;
         join(&mut table.words, stride, table.rows, &other.words);
         table.rows += other.rows;
