@@ -10,3 +10,4 @@ pub mod HeldLemmas
 pub mod AskLemmas
 pub mod TableLemmas
 pub mod ViewLemmas
+pub mod PlaneLemmas

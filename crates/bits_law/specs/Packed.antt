@@ -49,6 +49,10 @@ pub record AreFilled (old new : List ℕ) (literal c : ℕ) (word : ℕ → ℕ 
   pub before : Begins old new
   pub each : (p i : ℕ) → c ≤ p → p < 64 → i < 64 → has_bit literal p ≡ true → has_bit (get_or new (length old + count_ones (literal / 2 ^ p / 2)) 0) i ≡ word p i
 
+-- the first `done` bytes of a plane are those of each key's word, the lowest byte being byte 0
+pub record IsPlane (plane keys : List ℕ) (n part byte done : ℕ) : Type 0 where
+  pub each : (i : ℕ) → i < done → get_or plane i 0 ≡ get_or keys (i * n + part) 0 / 2 ^ (8 * byte) % 256
+
 -- a head stands for 64 columns of keys
 pub record IsHead (head : Head) (words keys : List ℕ) (n part taken : ℕ) : Type 0 where
   pub inside : IsInside head words

@@ -1,9 +1,11 @@
-ghost use Rattle.std.specs.Prelude.{◌≡◌, ℕ, ◌+◌, ◌-◌, ◌*◌, ◌/◌, ◌%◌, ◌^◌, ◌<◌, ◌≤◌, ◌&&◌, Bool, true, false, List, length, get_or, count_ones, OnOk, IfOk, nat_eq};
+ghost use Rattle.std.specs.Prelude.{◌≡◌, ℕ, ◌+◌, ◌-◌, ◌*◌, ◌/◌, ◌%◌, ◌^◌, ◌<◌, ◌≤◌, ◌&&◌, Bool, true, false, List, length, get_or, map, count_ones, OnOk, IfOk, nat_eq};
+ghost use Rattle.std.specs.Simd.Lanes.{mask_l};
 ghost use Rattle.bits_law.specs.Numbers.{has_bit};
-ghost use Rattle.bits_law.specs.Packed.{column_word, IsInside, IsHead, AreFilled, Begins};
+ghost use Rattle.bits_law.specs.Packed.{column_word, IsInside, IsHead, IsPlane, AreFilled, Begins};
 
 use crate::slices::has_bit;
 use std::alloc::AllocError;
+use std::simd::prelude::*;
 
 /// 64 columns of a block, the first column's bit highest. A literal column has a word of its own: those of a head
 /// stand from `from` on, in the order of their columns. Of the others, a full one is set at each row that has a key,
@@ -61,22 +63,34 @@ fn shared_bits(keys: &[u64], n: usize, part: usize, taken: u64) -> Shared
     Shared { any, each }
 }
 
-/// The column at bit `at`, of the keys that `taken` has.
-fn transposed(keys: &[u64], n: usize, part: usize, taken: u64, at: usize) -> u64
+/// Makes `plane` that of byte `at` / 8 of the keys' words, as it is already unless `at` is the byte's highest bit.
+fn turn(plane: &mut [u8], keys: &[u64], n: usize, part: usize, at: usize)
+    requires size { length plane.old ≡ 64 }
     requires long { length keys.now ≡ 64 * n }
     requires narrow { n ≤ 2 ^ 32 }
     requires part { part < n }
     requires at { at < 64 }
-    ensures { (i : ℕ) → i < 64 → has_bit result i ≡ (has_bit taken i && has_bit (get_or keys.now (i * n + part) 0) at) }
+    requires before { at % 8 < 7 → IsPlane plane.old keys.now n part (at / 8) 64 }
+    ensures size { length plane.new ≡ 64 }
+    ensures plane { IsPlane plane.new keys.now n part (at / 8) 64 }
 {
-    let mut word = 0;
-    let mut left = 64;
-    while left > 0 {
-        left -= 1;
-        let bit = has_bit(keys[left * n + part], at);
-        word = 2 * word + bit as u64;
+    if at % 8 < 7 {
+        return;
     }
-    word & taken
+    for i in 0..64 {
+        plane[i] = ((keys[i * n + part] >> (8 * (at / 8))) % 256) as u8;
+    }
+}
+
+/// The bit `at` of each byte of a plane.
+fn marks(plane: &[u8], at: usize) -> u64
+    requires size { length plane.now ≡ 64 }
+    requires at { at < 8 }
+    ensures { result ≡ mask_l (map (λ b. has_bit b at) plane.now) }
+{
+    let v = u8x64::from_slice(plane);
+    let mark = u8x64::splat(1 << at);
+    (v & mark).simd_eq(mark).to_bitmask()
 }
 
 /// Adds the words of the literal columns, the highest first. After a refusal some may stand behind the old words.
@@ -94,11 +108,13 @@ fn fill(
     ensures ok { OnOk result (AreFilled words.old.items words.new.items literal 0 (λ c i. has_bit taken i && has_bit (get_or keys.now (i * n + part) 0) c)) }
     ensures before { Begins words.old.items words.new.items }
 {
+    let mut plane = [0; 64];
     let mut at = 64;
     while at > 0 {
         at -= 1;
+        turn(&mut plane, keys, n, part, at);
         if has_bit(literal, at) {
-            words.push(transposed(keys, n, part, taken, at))?;
+            words.push(marks(&plane, at % 8) & taken)?;
         }
     }
     Ok(())
