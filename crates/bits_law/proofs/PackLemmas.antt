@@ -82,6 +82,16 @@ filled_none old literal word small = record {
   each = λ p i l u v e. absurd (omega arith);
 }
 
+pub filled_nothing : (old : List ℕ) (literal : ℕ) (word : ℕ → ℕ → Bool) → literal ≡ 0 → AreFilled old old literal 0 word
+filled_nothing old literal word none = record {
+  long = let whole : literal / 2 ^ 0 ≡ 0 = div-one literal ∙ none in omega (arith, whole, ones_le_self (literal / 2 ^ 0));
+  before = begins_same old;
+  each = λ p i l u v e. absurd (clash (ap (λ x. has_bit x p) none) e (bit-none p));
+}
+  where
+    clash : {x y : Bool} → x ≡ y → x ≡ true → y ≡ false → ⊥
+    clash p q r = cc
+
 pub filled_more : (old new : List ℕ) (literal c at w : ℕ) (word : ℕ → ℕ → Bool) → c ≡ at + 1 → has_bit literal at ≡ true → ((i : ℕ) → i < 64 → has_bit w i ≡ word at i) → AreFilled old new literal c word → AreFilled old (new ++ w ∷ []) literal at word
 filled_more old new literal c at w word is set_there e f = record {
   long = length-append new (w ∷ []) ∙ omega (arith, place, more);

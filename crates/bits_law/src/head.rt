@@ -108,6 +108,9 @@ fn fill(
     ensures ok { OnOk result (AreFilled words.old.items words.new.items literal 0 (λ c i. has_bit taken i && has_bit (get_or keys.now (i * n + part) 0) c)) }
     ensures before { Begins words.old.items words.new.items }
 {
+    if literal == 0 {
+        return Ok(());
+    }
     let mut plane = [0; 64];
     let mut at = 64;
     while at > 0 {

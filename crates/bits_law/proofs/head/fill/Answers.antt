@@ -1,7 +1,7 @@
 use Rattle.std.proofs.Common.{◌≡◌, ◌+◌, ◌-◌, ◌*◌, ℕ, ◌&&◌, get_or, refl, sym, ◌∙◌, subst, arith}
 use Rattle.bits_law.specs.Numbers.{has_bit}
 use Rattle.bits_law.specs.Packed.{AreFilled}
-use Rattle.bits_law.proofs.PackLemmas.{filled_none, filled_more, filled_skip}
+use Rattle.bits_law.proofs.PackLemmas.{filled_none, filled_nothing, filled_more, filled_skip}
 use Rattle.bits_law.proofs.PlaneLemmas.{marked_column}
 use Rattle.bits_law.proofs.head.fill.Goals as goal
 
@@ -38,3 +38,6 @@ loop-at-preserved c =
       plane = λ l. c.turn.ensures.plane;
       filled = filled_skip a.words.now.items c.loop-at.words.items a.literal at (at - 1) (λ c i. has_bit a.taken i && has_bit (get_or a.keys.now (i * a.n + a.part) 0) c) down (sym c.has_bit.ensures ∙ c.if-has_bit.false) c.loop-at.invariant.filled;
     }
+
+pub returns-then-literal-eq0-clause-ok : goal.returns-then-literal-eq0-clause-ok
+returns-then-literal-eq0-clause-ok c = filled_nothing c.args.words.now.items c.args.literal _ c.if-literal-eq0.true
