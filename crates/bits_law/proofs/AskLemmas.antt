@@ -1,17 +1,18 @@
 -- What is asked of lines, in words.
 use Rattle.std.proofs.Common.{◌≡◌, ℕ, zero, suc, ◌+◌, ◌-◌, ◌*◌, ◌/◌, ◌%◌, ◌^◌, ◌<◌, ◌≤◌, min, Bool, true, false, cond, eqb, ltb, not, ◌&&◌, ◌||◌, List, [], ◌++◌, length, get_or, take, drop, refl, ap, sym, ◌∙◌, inl, inr, arith}
-use Rattle.std.proofs.lemmas.Bool.{cases_lt}
-use Rattle.std.proofs.Math.Nat.{div-one, mul-le-mul_right}
+use Rattle.std.proofs.lemmas.Bool.{cases_lt, lt-ltb, le-ltb}
+use Rattle.std.proofs.Math.Nat.{div-one}
 use Rattle.std.proofs.lemmas.List.{ext_get_or, length-append, get_or_append_left, get_or-append_right, get_or-take, get_or-drop, length-take, length-drop, take_all}
 use Rattle.std.proofs.lemmas.List.FromFn.{length-map-range_with_len, get_or-map-range_with_len}
 use Rattle.bits_law.specs.Bitwise.{bitwise, bits_below}
 use Rattle.bits_law.specs.Numbers.{has_bit, then_bit, number_at, holds, IsAnswer}
 use Rattle.bits_law.specs.declared.slices.Order.{Order}
-use Rattle.bits_law.specs.Blocks.{blocks, cell, line_of, held, asked_rows, IsLaid, number_in}
+use Rattle.bits_law.specs.Blocks.{Lines, blocks, word_at, waiting, bit_at, block_in, bit_in, line_of, held, asked_rows, number_in}
 use Rattle.bits_law.proofs.WordBits.{bit-none, length_below, get_below}
 use Rattle.bits_law.proofs.BitwiseLemmas.{length-bitwise, get_or-bitwise}
 use Rattle.bits_law.proofs.NumberLemmas.{number_at-more, below_more, equal_more, half_key}
-use Rattle.bits_law.proofs.BlockLemmas.{length_line, get_line, held_wide, held_column}
+use Rattle.bits_law.proofs.StoreLemmas.{bit_stored, bit_waiting}
+use Rattle.bits_law.proofs.HeldLemmas.{length_line, get_line, held_wide, held_column}
 
 -- one bit of the halves, after one more word
 pub below_step : (a bit s : Bool) (p k half : ℕ) → bit ≡ eqb (k % 2) 1 → k / 2 ≡ half → cond bit ((a && ltb p half) || ((a && eqb p half) && not s)) (a && ltb p half) ≡ (a && ltb (then_bit p s) k)
@@ -117,16 +118,6 @@ pub related_bit : (a x b e : Bool) (rel : Order) (n key : ℕ) → b ≡ (a && l
 related_bit true x b e rel n key p q h = h p q
 related_bit false x b e rel n key p q h = refl
 
--- the rows of a block
-pub block_rows : (rows block : ℕ) → block < blocks rows → 64 * block < rows
-block_rows rows block l = omega arith
-
-pub block_inside : (words : List ℕ) (stride rows block n : ℕ) → block < blocks rows → n ≤ stride → IsLaid words stride rows → block * stride + n ≤ length words
-block_inside words stride rows block n l w laid =
-    let next : block + 1 ≤ blocks rows = omega arith in
-    let all : (block + 1) * stride ≤ blocks rows * stride = mul-le-mul_right stride next in
-    omega (arith, laid.long, all)
-
 -- the answers of the blocks so far
 pub record IsBegun (bits : List Bool) (test : ℕ → Bool) (rows block : ℕ) : Type 0 where
   pub long : length bits ≡ min (64 * block) rows
@@ -152,80 +143,114 @@ begun_more bits more test rows block word n l is e h b = record {
 pub begun_length : (bits : List Bool) (test : ℕ → Bool) (rows block : ℕ) → blocks rows ≤ block → IsBegun bits test rows block → length bits ≡ rows
 begun_length bits test rows block l b = omega (arith, b.long)
 
-pub begun_line : (bits : List Bool) (words : List ℕ) (stride rows line block : ℕ) → blocks rows ≤ block → IsBegun bits (cell words stride line) rows block → bits ≡ line_of words stride rows line
-begun_line bits words stride rows line block l b =
-    ext_get_or false bits (line_of words stride rows line) (begun_length bits (cell words stride line) rows block l b ∙ sym (length_line words stride rows line)) (λ i u.
-    let under : i < rows = omega (arith, begun_length bits (cell words stride line) rows block l b) in
-    b.each i (omega arith) under ∙ sym (get_line words stride rows line i under))
+pub begun_line : (bits : List Bool) (bit : ℕ → ℕ → Bool) (rows line block : ℕ) → blocks rows ≤ block → IsBegun bits (bit line) rows block → bits ≡ line_of bit rows line
+begun_line bits bit rows line block l b =
+    ext_get_or false bits (line_of bit rows line) (begun_length bits (bit line) rows block l b ∙ sym (length_line bit rows line)) (λ i u.
+    let under : i < rows = omega (arith, begun_length bits (bit line) rows block l b) in
+    b.each i (omega arith) under ∙ sym (get_line bit rows line i under))
 
-pub begun_answer : (bits : List Bool) (words : List ℕ) (stride rows block : ℕ) (all : Bool) (test : ℕ → Bool) → blocks rows ≤ block → IsBegun bits (λ row. (all || cell words stride 0 row) && test row) rows block → IsAnswer bits (asked_rows words stride rows all) test
-begun_answer bits words stride rows block all test l b = record {
-  rows = begun_length bits (λ row. (all || cell words stride 0 row) && test row) rows block l b ∙ sym wide;
+pub begun_answer : (bits : List Bool) (bit : ℕ → ℕ → Bool) (rows block : ℕ) (all : Bool) (test : ℕ → Bool) → blocks rows ≤ block → IsBegun bits (λ row. (all || bit 0 row) && test row) rows block → IsAnswer bits (asked_rows bit rows all) test
+begun_answer bits bit rows block all test l b = record {
+  rows = begun_length bits (λ row. (all || bit 0 row) && test row) rows block l b ∙ sym wide;
   each = λ row u.
       let under : row < rows = omega (arith, wide) in
       let at : 0 + row ≡ row = omega arith in
       b.each row (omega arith) under
-      ∙ ap (λ x. x && test row) (sym (get_or-map-range_with_len (λ row. all || cell words stride 0 row) 0 rows row row false under at));
+      ∙ ap (λ x. x && test row) (sym (get_or-map-range_with_len (λ row. all || bit 0 row) 0 rows row row false under at));
 }
   where
-    wide : length (asked_rows words stride rows all) ≡ rows
-    wide = length-map-range_with_len (λ row. all || cell words stride 0 row) 0 rows
+    wide : length (asked_rows bit rows all) ≡ rows
+    wide = length-map-range_with_len (λ row. all || bit 0 row) 0 rows
 
--- the bit of a block's word is the cell of its row
-pub cell_in_block : (words : List ℕ) (stride line block i : ℕ) → i < 64 → has_bit (get_or words (block * stride + line) 0) i ≡ cell words stride line (64 * block + i)
-cell_in_block words stride line block i l =
+-- the bit of a block's word is that of its row
+pub row_bit : (stored last : Lines) (line block i word : ℕ) → i < 64 → word ≡ get_or (block_in stored last block) line 0 → has_bit word i ≡ bit_in stored last line (64 * block + i)
+row_bit stored last line block i word l e =
     let q : block ≡ (64 * block + i) / 64 = omega arith in
     let r : i ≡ (64 * block + i) % 64 = omega arith in
-    ap (λ b. has_bit (get_or words (b * stride + line) 0) i) q ∙ ap (has_bit (get_or words ((64 * block + i) / 64 * stride + line) 0)) r
+    ap (λ w. has_bit w i) e
+    ∙ ap (λ b. has_bit (get_or (block_in stored last b) line 0) i) q ∙ ap (has_bit (get_or (block_in stored last ((64 * block + i) / 64)) line 0)) r
 
-pub number_in_block : (words : List ℕ) (stride line count block i : ℕ) → i < 64 → number_in words (block * stride + line) count i ≡ number_in words ((64 * block + i) / 64 * stride + line) count ((64 * block + i) % 64)
-number_in_block words stride line count block i l =
+pub asked_bit : (stored last : Lines) (first count key block i word : ℕ) (all : Bool) (rel : Order) → i < 64 → has_bit word i ≡ ((all || has_bit (get_or (block_in stored last block) 0 0) i) && holds rel (number_in (block_in stored last block) first count i) key) → has_bit word i ≡ ((all || bit_in stored last 0 (64 * block + i)) && holds rel (number_in (block_in stored last ((64 * block + i) / 64)) first count ((64 * block + i) % 64)) key)
+asked_bit stored last first count key block i word all rel l e =
     let q : block ≡ (64 * block + i) / 64 = omega arith in
     let r : i ≡ (64 * block + i) % 64 = omega arith in
-    ap (λ b. number_in words (b * stride + line) count i) q ∙ ap (number_in words ((64 * block + i) / 64 * stride + line) count) r
+    e
+    ∙ ap (λ b. (all || has_bit (get_or (block_in stored last b) 0 0) i) && holds rel (number_in (block_in stored last b) first count i) key) q
+    ∙ ap (λ k. (all || has_bit (get_or (block_in stored last ((64 * block + i) / 64)) 0 0) k) && holds rel (number_in (block_in stored last ((64 * block + i) / 64)) first count k) key) r
 
--- the number of a run of columns
-pub number_held : (words : List ℕ) (width rows from count row : ℕ) → from + count ≤ width → row < rows → number_in words (row / 64 * (width + 1) + (from + 1)) count (row % 64) ≡ number_at (take count (drop from (held words width rows).columns)) row
-number_held words width rows from count row w l =
-    first_columns count (omega arith) ∙ ap (λ cs. number_at cs row) (take_all count slices (omega (arith, wide)))
-  where
-    columns : List (List Bool)
-    columns = (held words width rows).columns
+-- the blocks and the last one show what the store holds
+pub shown_bit : (stored last : Lines) (keys : List ℕ) (taken rows : ℕ) → rows ≤ 64 * length stored.blocks + 64 → ((line i : ℕ) → line ≤ stored.width → i < 64 → has_bit (word_at last 0 line) i ≡ waiting keys stored.width taken line i) → (line row : ℕ) → line ≤ stored.width → row < rows → bit_in stored last line row ≡ bit_at stored keys taken line row
+shown_bit stored last keys taken rows near is line row l u = elim (cases_lt (row / 64) (length stored.blocks)) [
+  | inl less ↦
+      ap (λ b. has_bit (get_or (cond b (get_or stored.blocks (row / 64) []) (get_or last.blocks 0 [])) line 0) (row % 64)) (lt-ltb (row / 64) (length stored.blocks) less)
+      ∙ sym (bit_stored stored keys taken line row less)
+  | inr more ↦
+      ap (λ b. has_bit (get_or (cond b (get_or stored.blocks (row / 64) []) (get_or last.blocks 0 [])) line 0) (row % 64)) (le-ltb (row / 64) (length stored.blocks) more)
+      ∙ is line (row % 64) l (omega arith)
+      ∙ sym (bit_waiting stored keys taken line row (omega arith))
+]
 
-    slices : List (List Bool)
-    slices = take count (drop from columns)
+module _ (bit seen : ℕ → ℕ → Bool) (width rows : ℕ) (same : (line row : ℕ) → line ≤ width → row < rows → seen line row ≡ bit line row) where
+  pub line_seen : (line : ℕ) → line ≤ width → line_of seen rows line ≡ line_of bit rows line
+  line_seen line l = ext_get_or false (line_of seen rows line) (line_of bit rows line) (length_line seen rows line ∙ sym (length_line bit rows line)) (λ i u.
+      let under : i < rows = omega (arith, length_line seen rows line) in
+      get_line seen rows line i under ∙ same line i l under ∙ sym (get_line bit rows line i under))
 
-    wide : length slices ≡ count
-    wide = length-take count (drop from columns) ∙ omega (arith, length-drop from columns, held_wide words width rows)
+  rows_seen : (all : Bool) → asked_rows seen rows all ≡ asked_rows bit rows all
+  rows_seen all =
+      let wide = length-map-range_with_len (λ row. all || seen 0 row) 0 rows in
+      let wide_too = length-map-range_with_len (λ row. all || bit 0 row) 0 rows in
+      ext_get_or false (asked_rows seen rows all) (asked_rows bit rows all) (wide ∙ sym wide_too) (λ i u.
+      let under : i < rows = omega (arith, wide) in
+      let at : 0 + i ≡ i = omega arith in
+      get_or-map-range_with_len (λ row. all || seen 0 row) 0 rows i i false under at
+      ∙ ap (λ b. all || b) (same 0 i (omega arith) under)
+      ∙ sym (get_or-map-range_with_len (λ row. all || bit 0 row) 0 rows i i false under at))
 
-    slice_bit : (j : ℕ) → j < count → has_bit (get_or words (row / 64 * (width + 1) + (from + 1) + j) 0) (row % 64) ≡ get_or (get_or slices j []) row false
-    slice_bit j u =
-        let at : row / 64 * (width + 1) + (from + 1) + j ≡ row / 64 * (width + 1) + (from + j + 1) = omega arith in
-        ap (λ k. has_bit (get_or words k 0) (row % 64)) at
-        ∙ sym (get_line words (width + 1) rows (from + j + 1) row l)
-        ∙ ap (λ xs. get_or xs row false) (sym (get_or-take count (drop from columns) j [] u ∙ get_or-drop from columns j [] ∙ held_column words width rows (from + j) (omega arith)))
+  -- the number of a run of columns
+  number_held : (block : List ℕ) (from count row : ℕ) → ((line : ℕ) → has_bit (get_or block line 0) (row % 64) ≡ seen line row) → from + count ≤ width → row < rows → number_in block (from + 1) count (row % 64) ≡ number_at (take count (drop from (held bit width rows).columns)) row
+  number_held block from count row is w l =
+      first_columns count (omega arith) ∙ ap (λ cs. number_at cs row) (take_all count slices (omega (arith, wide)))
+    where
+      columns : List (List Bool)
+      columns = (held bit width rows).columns
 
-    first_columns : (n : ℕ) → n ≤ count → number_in words (row / 64 * (width + 1) + (from + 1)) n (row % 64) ≡ number_at (take n slices) row
-    first_columns zero u = refl
-    first_columns (suc n) u =
-        let more : n + 1 ≡ suc n = omega arith in
-        ap (λ x. then_bit x (has_bit (get_or words (row / 64 * (width + 1) + (from + 1) + n) 0) (row % 64))) (first_columns n (omega arith))
-        ∙ ap (then_bit (number_at (take n slices) row)) (slice_bit n (omega arith))
-        ∙ sym (number_at-more slices n row (omega (arith, wide)))
-        ∙ ap (λ n. number_at (take n slices) row) more
+      slices : List (List Bool)
+      slices = take count (drop from columns)
 
--- what is asked of words is asked of the columns
-pub answer_held : (answer : List Bool) (words : List ℕ) (width rows from count key : ℕ) (rel : Order) (all : Bool) → from + count ≤ width → IsAnswer answer (asked_rows words (width + 1) rows all) (λ row. holds rel (number_in words (row / 64 * (width + 1) + (from + 1)) count (row % 64)) key) → IsAnswer answer (asked_rows words (width + 1) rows all) (λ row. holds rel (number_at (take count (drop from (held words width rows).columns)) row) key)
-answer_held answer words width rows from count key rel all w a = record {
-  rows = a.rows;
-  each = λ row l.
-      let under : row < rows = omega (arith, length-map-range_with_len (λ row. all || cell words (width + 1) 0 row) 0 rows) in
-      a.each row l ∙ ap (λ n. get_or (asked_rows words (width + 1) rows all) row false && holds rel n key) (number_held words width rows from count row w under);
-}
+      wide : length slices ≡ count
+      wide = length-take count (drop from columns) ∙ omega (arith, length-drop from columns, held_wide bit width rows)
+
+      slice_bit : (j : ℕ) → j < count → has_bit (get_or block (from + 1 + j) 0) (row % 64) ≡ get_or (get_or slices j []) row false
+      slice_bit j u =
+          let at : from + 1 + j ≡ from + j + 1 = omega arith in
+          is (from + 1 + j) ∙ ap (λ k. seen k row) at ∙ same (from + j + 1) row (omega arith) l
+          ∙ sym (get_line bit rows (from + j + 1) row l)
+          ∙ ap (λ xs. get_or xs row false) (sym (get_or-take count (drop from columns) j [] u ∙ get_or-drop from columns j [] ∙ held_column bit width rows (from + j) (omega arith)))
+
+      first_columns : (n : ℕ) → n ≤ count → number_in block (from + 1) n (row % 64) ≡ number_at (take n slices) row
+      first_columns zero u = refl
+      first_columns (suc n) u =
+          let more : n + 1 ≡ suc n = omega arith in
+          ap (λ x. then_bit x (has_bit (get_or block (from + 1 + n) 0) (row % 64))) (first_columns n (omega arith))
+          ∙ ap (then_bit (number_at (take n slices) row)) (slice_bit n (omega arith))
+          ∙ sym (number_at-more slices n row (omega (arith, wide)))
+          ∙ ap (λ n. number_at (take n slices) row) more
+
+  -- what is asked of words is asked of the columns
+  pub answer_held : (answer : List Bool) (block : ℕ → List ℕ) (from count key : ℕ) (rel : Order) (all : Bool) → ((line row : ℕ) → has_bit (get_or (block row) line 0) (row % 64) ≡ seen line row) → from + count ≤ width → IsAnswer answer (asked_rows seen rows all) (λ row. holds rel (number_in (block row) (from + 1) count (row % 64)) key) → IsAnswer answer (asked_rows bit rows all) (λ row. holds rel (number_at (take count (drop from (held bit width rows).columns)) row) key)
+  answer_held answer block from count key rel all is w a = record {
+    rows = a.rows ∙ ap length (rows_seen all);
+    each = λ row l.
+        let under : row < rows = omega (arith, length-map-range_with_len (λ row. all || bit 0 row) 0 rows) in
+        a.each row (omega (arith, ap length (rows_seen all)))
+        ∙ ap (λ n. get_or (asked_rows seen rows all) row false && holds rel n key) (number_held (block row) from count row (λ line. is line row) w under)
+        ∙ ap (λ xs. get_or xs row false && holds rel (number_at (take count (drop from (held bit width rows).columns)) row) key) (rows_seen all);
+  }
 
 -- of all rows, those that are among some
-pub answer_among : (answer among all : List Bool) (words : List ℕ) (stride rows : ℕ) (test : ℕ → Bool) → length among ≡ rows → answer ≡ bitwise ◌&&◌ among all → IsAnswer all (asked_rows words stride rows true) test → IsAnswer answer among test
-answer_among answer among all words stride rows test l e a = record {
+pub answer_among : (answer among all : List Bool) (bit : ℕ → ℕ → Bool) (rows : ℕ) (test : ℕ → Bool) → length among ≡ rows → answer ≡ bitwise ◌&&◌ among all → IsAnswer all (asked_rows bit rows true) test → IsAnswer answer among test
+answer_among answer among all bit rows test l e a = record {
   rows = ap length e ∙ length-bitwise ◌&&◌ among all same;
   each = λ row u.
       let at : 0 + row ≡ row = omega arith in
@@ -234,16 +259,8 @@ answer_among answer among all words stride rows test l e a = record {
       ∙ ap (λ b. get_or among row false && b) (a.each row (omega (arith, wide)) ∙ ap (λ b. b && test row) (get_or-map-range_with_len (λ row. true) 0 rows row row false (omega arith) at));
 }
   where
-    wide : length (asked_rows words stride rows true) ≡ rows
+    wide : length (asked_rows bit rows true) ≡ rows
     wide = length-map-range_with_len (λ row. true) 0 rows
 
     same : length among ≡ length all
     same = l ∙ sym wide ∙ sym a.rows
-
--- the answer of a block, at the row of each bit
-pub asked_block : (words : List ℕ) (stride first count key block i among word : ℕ) (all : Bool) (rel : Order) → i < 64 → has_bit among i ≡ (all || has_bit (get_or words (block * stride) 0) i) → has_bit word i ≡ (has_bit among i && holds rel (number_in words (block * stride + first) count i) key) → has_bit word i ≡ ((all || cell words stride 0 (64 * block + i)) && holds rel (number_in words ((64 * block + i) / 64 * stride + first) count ((64 * block + i) % 64)) key)
-asked_block words stride first count key block i among word all rel l a w =
-    let at : block * stride ≡ block * stride + 0 = omega arith in
-    w
-    ∙ ap (λ x. x && holds rel (number_in words (block * stride + first) count i) key) (a ∙ ap (λ k. all || has_bit (get_or words k 0) i) at ∙ ap (λ x. all || x) (cell_in_block words stride 0 block i l))
-    ∙ ap (λ n. (all || cell words stride 0 (64 * block + i)) && holds rel n key) (number_in_block words stride first count block i l)

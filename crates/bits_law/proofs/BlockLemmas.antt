@@ -1,201 +1,230 @@
--- Rows in blocks, as lists of bits.
-use Rattle.std.proofs.Common.{◌≡◌, ◌≢◌, ℕ, zero, suc, ◌+◌, ◌-◌, ◌*◌, ◌/◌, ◌%◌, ◌^◌, ◌<◌, ◌≤◌, Bool, true, false, ◌||◌, List, [], ◌∷◌, ◌++◌, length, get_or, replicate, refl, ap, sym, ◌∙◌, inl, inr, arith}
-use Rattle.std.proofs.lemmas.Bool.{cases_eq, cases_lt}
-use Rattle.std.proofs.lemmas.Nat.{mul-add-lt}
+-- Blocks, packed and unpacked.
+use Rattle.std.proofs.Common.{◌≡◌, ℕ, zero, suc, ◌+◌, ◌-◌, ◌*◌, ◌/◌, ◌%◌, ◌^◌, ◌<◌, ◌≤◌, cond, List, [], ◌∷◌, ◌++◌, length, get_or, take, replicate, map, count_ones, refl, ap, sym, ◌∙◌, subst, inl, inr, arith}
+use Rattle.std.specs.List.{range_with_len}
+use Rattle.std.proofs.lemmas.Bool.{cases_lt}
+use Rattle.std.proofs.lemmas.Nat.{ones_le_self}
 use Rattle.std.proofs.Math.Nat.{mul-le-mul_right}
-use Rattle.std.proofs.lemmas.List.{ext_get_or, length-append, length-replicate, get_or-replicate, get_or_append_left, get_or-append_right}
-use Rattle.std.proofs.lemmas.List.FromFn.{length-map-range_with_len, get_or-map-range_with_len, map-range_with_len_more}
-use Rattle.bits_law.specs.Keys.{padded, placed}
-use Rattle.bits_law.specs.Contents.{IsPlaced, IsPadded, IsEven}
+use Rattle.std.proofs.lemmas.List.{take_all, length-append, length-map, length-replicate, get_or-map, get_or_push, get_or_past, get_or_append_left, get_or-append_right}
+use Rattle.std.proofs.lemmas.List.FromFn.{length-map-range_with_len, get_or-map-range_with_len}
+use Rattle.bits_law.specs.declared.head.Head.{Head}
 use Rattle.bits_law.specs.Numbers.{has_bit}
-use Rattle.bits_law.specs.Blocks.{blocks, cell, line_of, held, IsLaid, IsMarked, line_bit}
+use Rattle.bits_law.specs.Blocks.{parts, word_at, waiting}
+use Rattle.bits_law.specs.Packed.{no_head, moved, column_word, line_word, unpacked, IsInside, ArePacked, Begins, IsHead, AreHeads, AreAdded, IsStored, AreBehind}
 use Rattle.bits_law.proofs.WordBits.{bit-none}
+use Rattle.bits_law.proofs.PackLemmas.{begins_get, begins_same, begins_more, column_kept, inside_kept}
 
-pub length_line : (words : List ℕ) (stride rows line : ℕ) → length (line_of words stride rows line) ≡ rows
-length_line words stride rows line = length-map-range_with_len (cell words stride line) 0 rows
+-- what is filled up behind a list is there anyway
+module _ {A : Type 0} where
+  pub get_filled : (xs : List A) (n i : ℕ) (d : A) → get_or (xs ++ replicate n d) i d ≡ get_or xs i d
+  get_filled [] zero i d = refl
+  get_filled [] (suc n) zero d = refl
+  get_filled [] (suc n) (suc i) d = get_filled [] n i d
+  get_filled (x ∷ xs) n zero d = refl
+  get_filled (x ∷ xs) n (suc i) d = get_filled xs n i d
 
-pub get_line : (words : List ℕ) (stride rows line i : ℕ) → i < rows → get_or (line_of words stride rows line) i false ≡ cell words stride line i
-get_line words stride rows line i l = let at : 0 + i ≡ i = omega arith in get_or-map-range_with_len (cell words stride line) 0 rows i i false l at
+  pub resized : (xs new : List A) (n : ℕ) (d : A) → new ≡ take n xs ++ replicate (n - length xs) d → length xs ≤ n → new ≡ xs ++ replicate (n - length xs) d
+  resized xs new n d e l = e ∙ ap (λ ys. ys ++ replicate (n - length xs) d) (take_all n xs l)
 
--- words of zeros behind change no bit
-get_zeros : (words : List ℕ) (n i : ℕ) → get_or (words ++ replicate n 0) i 0 ≡ get_or words i 0
-get_zeros [] zero i = refl
-get_zeros [] (suc n) zero = refl
-get_zeros [] (suc n) (suc i) = get_zeros [] n i
-get_zeros (w ∷ words) n zero = refl
-get_zeros (w ∷ words) n (suc i) = get_zeros words n i
+  pub resized_long : (xs new : List A) (n : ℕ) (d : A) → new ≡ xs ++ replicate (n - length xs) d → length xs ≤ n → length new ≡ n
+  resized_long xs new n d e l = ap length e ∙ length-append xs (replicate (n - length xs) d) ∙ omega (arith, l, length-replicate {A = A} (n - length xs) d)
 
-pub cell_grown : (words grown : List ℕ) (n stride line row : ℕ) → grown ≡ words ++ replicate n 0 → cell grown stride line row ≡ cell words stride line row
-cell_grown words grown n stride line row e =
-    ap (λ ws. has_bit (get_or ws (row / 64 * stride + line) 0) (row % 64)) e
-    ∙ ap (λ w. has_bit w (row % 64)) (get_zeros words n (row / 64 * stride + line))
-
--- a line grows
-pub line_padded : (old new : List ℕ) (stride line rows to : ℕ) → rows ≤ to → ((row : ℕ) → row < rows → cell new stride line row ≡ cell old stride line row) → ((row : ℕ) → rows ≤ row → row < to → cell new stride line row ≡ false) → line_of new stride to line ≡ padded false (line_of old stride rows line) to
-line_padded old new stride line rows to more same gap =
-    ext_get_or false (line_of new stride to line) (padded false xs to) (length_line new stride to line ∙ sym long) (λ i l.
-    let under : i < to = omega (arith, length_line new stride to line) in
-    get_line new stride to line i under ∙ elim (cases_lt i rows) [
-      | inl less ↦ same i less ∙ sym (get_line old stride rows line i less) ∙ sym (get_or_append_left xs (replicate (to - length xs) false) false i (omega (arith, wide)))
-      | inr beyond ↦ gap i beyond under ∙ sym (get_or-replicate (to - length xs) (i - rows) false false (omega (arith, wide))) ∙ sym (get_or-append_right xs (replicate (to - length xs) false) rows i false wide beyond)
-    ])
+-- a block of keys is added to the lists
+pub added_is : (present pushed np words keys : List ℕ) (heads mid nh : List Head) (n taken count : ℕ) → pushed ≡ present ++ taken ∷ [] → np ≡ take count pushed ++ replicate (count - length pushed) 0 → nh ≡ take (count * n) mid ++ replicate (count * n - length mid) no_head → length present < count → length heads ≡ length present * n → AreHeads heads mid words keys n n taken → AreAdded present np heads nh words keys n taken count
+added_is present pushed np words keys heads mid nh n taken count push rows more few long are = record {
+  blocks = resized_long pushed np count 0 np_is (omega (arith, pushed_long));
+  first = ap (λ xs. get_or xs (length present) 0) np_is ∙ get_filled pushed (count - length pushed) (length present) 0 ∙ ap (λ xs. get_or xs (length present) 0) push ∙ get_or_push present taken 0 (length present) refl;
+  no_rows = λ block l. ap (λ xs. get_or xs block 0) np_is ∙ get_filled pushed (count - length pushed) block 0 ∙ get_or_past pushed block 0 (omega (arith, pushed_long));
+  long = resized_long mid nh (count * n) no_head nh_is mid_short;
+  made = λ part l. subst (λ h. IsHead h words keys n part taken) (sym (head_at (length heads + part))) (are.each part l);
+  no_heads = λ k l. head_at k ∙ get_or_past mid k no_head (omega (arith, are.long));
+}
   where
-    xs : List Bool
-    xs = line_of old stride rows line
+    pushed_long : length pushed ≡ length present + 1
+    pushed_long = ap length push ∙ length-append present (taken ∷ [])
 
-    wide : length xs ≡ rows
-    wide = length_line old stride rows line
+    np_is : np ≡ pushed ++ replicate (count - length pushed) 0
+    np_is = resized pushed np count 0 rows (omega (arith, pushed_long))
 
-    long : length (padded false xs to) ≡ to
-    long = length-append xs (replicate (to - length xs) false) ∙ omega (arith, wide, length-replicate (to - length xs) false)
+    mid_short : length mid ≤ count * n
+    mid_short =
+        let next : length present + 1 ≤ count = omega arith in
+        let all : (length present + 1) * n ≤ count * n = mul-le-mul_right n next in
+        omega (arith, are.long, long, all)
 
-pub line_placed : (old new : List ℕ) (stride line rows row : ℕ) (bit : Bool) → rows ≤ row → ((i : ℕ) → i < rows → cell new stride line i ≡ cell old stride line i) → ((i : ℕ) → rows ≤ i → i < row → cell new stride line i ≡ false) → cell new stride line row ≡ bit → line_of new stride (row + 1) line ≡ placed false (line_of old stride rows line) row bit
-line_placed old new stride line rows row bit after same gap here =
-    let at : 0 + row ≡ row = omega arith in
-    map-range_with_len_more (cell new stride line) 0 row row at
-    ∙ ap (λ xs. xs ++ cell new stride line row ∷ []) (line_padded old new stride line rows row after same gap)
-    ∙ ap (λ b. padded false (line_of old stride rows line) row ++ b ∷ []) here
+    nh_is : nh ≡ mid ++ replicate (count * n - length mid) no_head
+    nh_is = resized mid nh (count * n) no_head more mid_short
 
-pub line_joined : (old other new : List ℕ) (stride line n m : ℕ) → ((i : ℕ) → i < n → cell new stride line i ≡ cell old stride line i) → ((i : ℕ) → i < m → cell new stride line (n + i) ≡ cell other stride line i) → line_of new stride (n + m) line ≡ line_of old stride n line ++ line_of other stride m line
-line_joined old other new stride line n m same more =
-    ext_get_or false (line_of new stride (n + m) line) (xs ++ ys) (length_line new stride (n + m) line ∙ sym long) (λ i l.
-    let under : i < n + m = omega (arith, length_line new stride (n + m) line) in
-    get_line new stride (n + m) line i under ∙ elim (cases_lt i n) [
-      | inl less ↦ same i less ∙ sym (get_line old stride n line i less) ∙ sym (get_or_append_left xs ys false i (omega (arith, length_line old stride n line)))
-      | inr beyond ↦
-          let back : n + (i - n) ≡ i = omega arith in
-          ap (cell new stride line) (sym back) ∙ more (i - n) (omega arith)
-          ∙ sym (get_line other stride m line (i - n) (omega arith))
-          ∙ sym (get_or-append_right xs ys n i false (length_line old stride n line) beyond)
-    ])
-  where
-    xs : List Bool
-    xs = line_of old stride n line
+    head_at : (k : ℕ) → get_or nh k no_head ≡ get_or mid k no_head
+    head_at k = ap (λ hs. get_or hs k no_head) nh_is ∙ get_filled mid (count * n - length mid) k no_head
 
-    ys : List Bool
-    ys = line_of other stride m line
+-- the words of packed blocks
+module _ (width : ℕ) (present : List ℕ) (heads : List Head) (words : List ℕ) where
+  pub blocks_long : length (unpacked width present heads words).blocks ≡ length present
+  blocks_long = length-map-range_with_len (λ block. map (line_word (parts width) present heads words block) (range_with_len 0 (width + 1))) 0 (length present)
 
-    long : length (xs ++ ys) ≡ n + m
-    long = length-append xs ys ∙ omega (arith, length_line old stride n line, length_line other stride m line)
+  pub word_is : (block line : ℕ) → block < length present → line ≤ width → word_at (unpacked width present heads words) block line ≡ line_word (parts width) present heads words block line
+  word_is block line l u =
+      let at : 0 + block ≡ block = omega arith in
+      let to : 0 + line ≡ line = omega arith in
+      ap (λ b. get_or b line 0) (get_or-map-range_with_len (λ block. map (line_word (parts width) present heads words block) (range_with_len 0 (width + 1))) 0 (length present) block block [] l at)
+      ∙ get_or-map-range_with_len (line_word (parts width) present heads words block) 0 (width + 1) line line 0 (omega arith) to
 
--- the columns of what words hold
-pub held_wide : (words : List ℕ) (width rows : ℕ) → length (held words width rows).columns ≡ width
-held_wide words width rows = length-map-range_with_len (λ j. line_of words (width + 1) rows (j + 1)) 0 width
+  pub word_past : (block line : ℕ) → length present ≤ block → word_at (unpacked width present heads words) block line ≡ 0
+  word_past block line l = ap (λ b. get_or b line 0) (get_or_past (unpacked width present heads words).blocks block [] (omega (arith, blocks_long)))
 
-pub held_column : (words : List ℕ) (width rows j : ℕ) → j < width → get_or (held words width rows).columns j [] ≡ line_of words (width + 1) rows (j + 1)
-held_column words width rows j l = let at : 0 + j ≡ j = omega arith in get_or-map-range_with_len (λ j. line_of words (width + 1) rows (j + 1)) 0 width j j [] l at
-
-pub held_present : (words : List ℕ) (width rows : ℕ) → length (held words width rows).present ≡ rows
-held_present words width rows = length_line words (width + 1) rows 0
-
-pub held_even : (words : List ℕ) (width rows : ℕ) → IsEven (held words width rows)
-held_even words width rows j l =
-    let under : j < width = omega (arith, held_wide words width rows) in
-    ap length (held_column words width rows j under) ∙ length_line words (width + 1) rows (j + 1) ∙ sym (held_present words width rows)
-
--- no rows
-pub laid_none : (stride : ℕ) → IsLaid [] stride 0
-laid_none stride = record { long = omega arith; clear = λ line row u l. bit-none (row % 64); short = omega arith }
-
--- a gap
-module _ (old new : List ℕ) (n width rows to : ℕ) (more : rows ≤ to) (grown : new ≡ old ++ replicate n 0) where
-  same_cell : (line row : ℕ) → cell new (width + 1) line row ≡ cell old (width + 1) line row
-  same_cell line row = cell_grown old new n (width + 1) line row grown
-
-  pub padded_is : IsLaid old (width + 1) rows → IsPadded (held old width rows) (held new width to) to
-  padded_is laid = record {
-    present = line_padded old new (width + 1) 0 rows to more (λ i l. same_cell 0 i) (λ i l u. same_cell 0 i ∙ laid.clear 0 i (omega arith) l);
-    each = record {
-      wide = held_wide new width to ∙ sym (held_wide old width rows);
-      column = λ j u.
-          let under : j < width = omega (arith, held_wide old width rows) in
-          held_column new width to j under
-          ∙ line_padded old new (width + 1) (j + 1) rows to more (λ i l. same_cell (j + 1) i) (λ i l u. same_cell (j + 1) i ∙ laid.clear (j + 1) i (omega arith) l)
-          ∙ ap (λ xs. padded false xs to) (sym (held_column old width rows j under));
-    };
-  }
-
-  pub padded_laid : n ≡ blocks to * (width + 1) - length old → length old ≤ blocks to * (width + 1) → to ≤ 2 ^ 40 → IsLaid old (width + 1) rows → IsLaid new (width + 1) to
-  padded_laid e room short laid = record {
-    long = ap length grown ∙ length-append old (replicate n 0) ∙ omega (arith, length-replicate {A = ℕ} n 0);
-    clear = λ line row u l. same_cell line row ∙ laid.clear line row u (omega arith);
-    short = short;
-  }
-
--- the words that there are fit the blocks of more rows
-pub room_for : (words : List ℕ) (stride rows to : ℕ) → rows ≤ to → IsLaid words stride rows → length words ≤ blocks to * stride
-room_for words stride rows to more laid =
-    let fewer : blocks rows ≤ blocks to = omega arith in
-    let all : blocks rows * stride ≤ blocks to * stride = mul-le-mul_right stride fewer in
-    omega (arith, laid.long, all)
-
-pub grown_long : (words grown : List ℕ) (stride rows to : ℕ) → rows ≤ to → grown ≡ words ++ replicate (blocks to * stride - length words) 0 → IsLaid words stride rows → length grown ≡ blocks to * stride
-grown_long words grown stride rows to more e laid =
-    ap length e ∙ length-append words (replicate (blocks to * stride - length words) 0)
-    ∙ omega (arith, length-replicate {A = ℕ} (blocks to * stride - length words) 0, room_for words stride rows to more laid)
-
--- the block of a row is within
-pub row_inside : (row stride length : ℕ) → length ≡ blocks (row + 1) * stride → row / 64 * stride + stride ≤ length
-row_inside row stride length e =
-    let block : row / 64 + 1 ≤ blocks (row + 1) = omega arith in
-    let all : (row / 64 + 1) * stride ≤ blocks (row + 1) * stride = mul-le-mul_right stride block in
-    omega arith
-
--- a row's bits are set
-module _ (old new : List ℕ) (stride row : ℕ) (bit : ℕ → Bool) (m : IsMarked old new (row / 64 * stride) stride (row % 64) bit) where
-  pub marked_here : (line : ℕ) → line < stride → cell new stride line row ≡ (cell old stride line row || bit line)
-  marked_here line l = m.here line l
-
-  pub marked_other : (line i : ℕ) → line < stride → i ≢ row → cell new stride line i ≡ cell old stride line i
-  marked_other line i l ne = elim (cases_lt (i / 64) (row / 64)) [
+  pub word_over : (block line : ℕ) → width < line → word_at (unpacked width present heads words) block line ≡ 0
+  word_over block line l = elim (cases_lt block (length present)) [
     | inl less ↦
-        let before : i / 64 * stride + line < stride * (row / 64) = mul-add-lt (i / 64) stride line (row / 64) less l in
-        ap (λ w. has_bit w (i % 64)) (m.below (i / 64 * stride + line) (omega arith))
-    | inr not_less ↦ elim (cases_eq (i / 64) (row / 64)) [
-      | inl is ↦
-          let apart : i % 64 ≢ row % 64 = λ e. ne (omega arith) in
-          m.other (i / 64 * stride + line) (i % 64) apart
-      | inr ne_block ↦
-          let behind : row / 64 + 1 ≤ i / 64 = omega arith in
-          let over : (row / 64 + 1) * stride ≤ i / 64 * stride = mul-le-mul_right stride behind in
-          ap (λ w. has_bit w (i % 64)) (m.above (i / 64 * stride + line) (omega arith))
-    ]
+        let at : 0 + block ≡ block = omega arith in
+        ap (λ b. get_or b line 0) (get_or-map-range_with_len (λ block. map (line_word (parts width) present heads words block) (range_with_len 0 (width + 1))) 0 (length present) block block [] less at)
+        ∙ get_or_past (map (line_word (parts width) present heads words block) (range_with_len 0 (width + 1))) line 0 (omega (arith, length-map-range_with_len (line_word (parts width) present heads words block) 0 (width + 1)))
+    | inr more ↦ word_past block line more
   ]
 
--- a key is put
-module _ (old grown new : List ℕ) (n width rows row : ℕ) (bit : ℕ → Bool) (after : rows ≤ row) (is_grown : grown ≡ old ++ replicate n 0) (m : IsMarked grown new (row / 64 * (width + 1)) (width + 1) (row % 64) (line_bit bit)) (laid : IsLaid old (width + 1) rows) where
-  other_row : (line i : ℕ) → line < width + 1 → i ≢ row → cell new (width + 1) line i ≡ cell old (width + 1) line i
-  other_row line i l ne = marked_other grown new (width + 1) row (line_bit bit) m line i l ne ∙ cell_grown old grown n (width + 1) line i is_grown
+pub part_of : (width j : ℕ) → j < width → j / 64 < parts width
+part_of width j l = omega arith
 
-  this_row : (line : ℕ) → line < width + 1 → cell new (width + 1) line row ≡ line_bit bit line
-  this_row line l =
-      marked_here grown new (width + 1) row (line_bit bit) m line l
-      ∙ ap (λ b. b || line_bit bit line) (cell_grown old grown n (width + 1) line row is_grown ∙ laid.clear line row l after)
+pub head_inside : (n blocks block part : ℕ) → block < blocks → part < n → block * n + part < blocks * n
+head_inside n blocks block part l u =
+    let next : block + 1 ≤ blocks = omega arith in
+    let all : (block + 1) * n ≤ blocks * n = mul-le-mul_right n next in
+    omega (arith, all)
 
-  line_is : (line : ℕ) (b : Bool) → line < width + 1 → line_bit bit line ≡ b → line_of new (width + 1) (row + 1) line ≡ placed false (line_of old (width + 1) rows line) row b
-  line_is line b l e =
-      line_placed old new (width + 1) line rows row b after
-      (λ i u. let ne : i ≢ row = omega arith in other_row line i l ne)
-      (λ i u v. let ne : i ≢ row = omega arith in other_row line i l ne ∙ laid.clear line i l u)
-      (this_row line l ∙ e)
+pub no_head_word : (words : List ℕ) (c : ℕ) → column_word 0 words no_head c ≡ 0
+no_head_word words c = ap (λ b. cond b (get_or words (0 + count_ones (0 / 2 ^ c / 2)) 0) (cond b 0 0)) (bit-none c)
 
-  pub placed_is : IsPlaced (held old width rows) (held new width (row + 1)) row bit
-  placed_is = record {
-    present = line_is 0 true (omega arith) refl;
-    each = record {
-      wide = held_wide new width (row + 1) ∙ sym (held_wide old width rows);
-      column = λ j u.
-          let under : j < width = omega (arith, held_wide old width rows) in
-          let next : j + 1 ≡ suc j = omega arith in
-          held_column new width (row + 1) j under
-          ∙ line_is (j + 1) (bit j) (omega arith) (ap (line_bit bit) next)
-          ∙ ap (λ xs. placed false xs row (bit j)) (sym (held_column old width rows j under));
-    };
+-- blocks that stood before have the same words
+pub old_word : (width : ℕ) (present np : List ℕ) (heads nh : List Head) (words nw : List ℕ) → ArePacked width present heads words → Begins present np → Begins heads nh → Begins words nw → (block line : ℕ) → block < length present → line ≤ width → line_word (parts width) np nh nw block line ≡ line_word (parts width) present heads words block line
+old_word width present np heads nh words nw packed rows tops more block zero l u = begins_get present np block 0 rows l
+old_word width present np heads nh words nw packed rows tops more block (suc j) l u =
+    let k : ℕ = block * parts width + j / 64 in
+    let at : k < length heads = omega (arith, packed.long, head_inside (parts width) (length present) block (j / 64) l (part_of width j u)) in
+    ap (λ p. column_word p nw (get_or nh k no_head) (63 - j % 64)) (begins_get present np block 0 rows l)
+    ∙ ap (λ h. column_word (get_or present block 0) nw h (63 - j % 64)) (begins_get heads nh k no_head tops at)
+    ∙ column_kept (get_or present block 0) words nw (get_or heads k no_head) (63 - j % 64) (packed.inside k at) more
+
+module _ (width : ℕ) (present np : List ℕ) (heads nh : List Head) (words nw keys : List ℕ) (taken count : ℕ) (packed : ArePacked width present heads words) (a : AreAdded present np heads nh nw keys (parts width) taken count) (rows : Begins present np) (tops : Begins heads nh) (more : Begins words nw) (few : length present < count) where
+  new_word : (line i : ℕ) → line ≤ width → i < 64 → has_bit (line_word (parts width) np nh nw (length present) line) i ≡ waiting keys width taken line i
+  new_word zero i u v = ap (λ w. has_bit w i) a.first
+  new_word (suc j) i u v =
+      let place : length present * parts width + j / 64 ≡ length heads + j / 64 = omega (arith, packed.long) in
+      ap (λ p. has_bit (column_word p nw (get_or nh (length present * parts width + j / 64) no_head) (63 - j % 64)) i) a.first
+      ∙ ap (λ k. has_bit (column_word taken nw (get_or nh k no_head) (63 - j % 64)) i) place
+      ∙ (a.made (j / 64) (part_of width j u)).bits (63 - j % 64) i (omega arith) v
+
+  gap_word : (block line : ℕ) → length present < block → line_word (parts width) np nh nw block line ≡ 0
+  gap_word block zero l = a.no_rows block l
+  gap_word block (suc j) l =
+      let k : ℕ = block * parts width + j / 64 in
+      let next : length present + 1 ≤ block = omega arith in
+      let all : (length present + 1) * parts width ≤ block * parts width = mul-le-mul_right (parts width) next in
+      ap (λ p. column_word p nw (get_or nh k no_head) (63 - j % 64)) (a.no_rows block l)
+      ∙ ap (λ h. column_word 0 nw h (63 - j % 64)) (a.no_heads k (omega (arith, packed.long, all)))
+      ∙ no_head_word nw (63 - j % 64)
+
+  pub stored_is : IsStored (unpacked width present heads words) (unpacked width np nh nw) keys taken count
+  stored_is = record {
+    wide = refl;
+    long = blocks_long width np nh nw ∙ a.blocks;
+    before = λ block line l u.
+        let under : block < length present = omega (arith, blocks_long width present heads words) in
+        word_is width np nh nw block line (omega (arith, a.blocks)) u ∙ old_word width present np heads nh words nw packed rows tops more block line under u ∙ sym (word_is width present heads words block line under u);
+    here = λ line i u v.
+        ap (λ b. has_bit (word_at (unpacked width np nh nw) b line) i) (blocks_long width present heads words)
+        ∙ ap (λ w. has_bit w i) (word_is width np nh nw (length present) line (omega (arith, a.blocks)) u)
+        ∙ new_word line i u v;
+    gap = λ block line l.
+        let behind : length present < block = omega (arith, blocks_long width present heads words) in
+        elim (cases_lt block (length np)) [
+          | inl less ↦ elim (cases_lt width line) [
+            | inl over ↦ word_over width np nh nw block line over
+            | inr within ↦ word_is width np nh nw block line less within ∙ gap_word block line behind
+          ]
+          | inr past ↦ word_past width np nh nw block line past
+        ];
   }
 
-  pub placed_laid : length grown ≡ blocks (row + 1) * (width + 1) → row + 1 ≤ 2 ^ 40 → IsLaid new (width + 1) (row + 1)
-  placed_laid long short = record {
-    long = m.long ∙ long;
-    clear = λ line i u l. let ne : i ≢ row = omega arith in other_row line i u ne ∙ laid.clear line i u (omega arith);
-    short = short;
+  pub stored_packed : ArePacked width np nh nw
+  stored_packed = record {
+    narrow = packed.narrow;
+    long = a.long ∙ ap (λ k. k * parts width) (sym a.blocks);
+    inside = λ k l. elim (cases_lt k (length heads)) [
+      | inl old ↦ subst (λ h. IsInside h nw) (sym (begins_get heads nh k no_head tops old)) (inside_kept words nw (get_or heads k no_head) (packed.inside k old) more)
+      | inr not_old ↦ elim (cases_lt k (length heads + parts width)) [
+        | inl new ↦
+            let place : length heads + (k - length heads) ≡ k = omega arith in
+            subst (λ k. IsInside (get_or nh k no_head) nw) place (a.made (k - length heads) (omega arith)).inside
+        | inr gap ↦ subst (λ h. IsInside h nw) (sym (a.no_heads k gap)) (omega (arith, ones_le_self 0))
+      ]
+    ];
   }
+
+-- other blocks are added behind
+pub column_moved : (present by : ℕ) (words other : List ℕ) (head : Head) (c : ℕ) → by ≡ length words → column_word present (words ++ other) (moved by head) c ≡ column_word present other head c
+column_moved present by words other head c e = ap (λ x. cond (has_bit head.literal c) x (cond (has_bit head.full c) present 0)) (
+    get_or-append_right words other (length words) (head.from + by + count_ones (head.literal / 2 ^ c / 2)) 0 refl (omega (arith, e))
+    ∙ ap (λ k. get_or other k 0) (let back : head.from + by + count_ones (head.literal / 2 ^ c / 2) - length words ≡ head.from + count_ones (head.literal / 2 ^ c / 2) = omega (arith, e) in back))
+
+module _ (width : ℕ) (present op : List ℕ) (heads oh : List Head) (words ow : List ℕ) (by : ℕ) (is : by ≡ length words) (packed : ArePacked width present heads words) (other : ArePacked width op oh ow) where
+  abbrev pub moved_heads : List Head
+  moved_heads = map (moved by) oh
+
+  head_moved : (k : ℕ) → k < length oh → get_or (heads ++ moved_heads) (length heads + k) no_head ≡ moved by (get_or oh k no_head)
+  head_moved k l =
+      get_or-append_right heads moved_heads (length heads) (length heads + k) no_head refl (omega arith)
+      ∙ ap (λ i. get_or moved_heads i no_head) (let back : length heads + k - length heads ≡ k = omega arith in back)
+      ∙ get_or-map (moved by) oh k no_head no_head l
+
+  behind_row : (block : ℕ) → get_or (present ++ op) (length present + block) 0 ≡ get_or op block 0
+  behind_row block =
+      get_or-append_right present op (length present) (length present + block) 0 refl (omega arith)
+      ∙ ap (λ i. get_or op i 0) (let back : length present + block - length present ≡ block = omega arith in back)
+
+  behind_word : (block line : ℕ) → block < length op → line ≤ width → line_word (parts width) (present ++ op) (heads ++ moved_heads) (words ++ ow) (length present + block) line ≡ line_word (parts width) op oh ow block line
+  behind_word block zero l u = behind_row block
+  behind_word block (suc j) l u =
+      let k : ℕ = block * parts width + j / 64 in
+      let at : k < length oh = omega (arith, other.long, head_inside (parts width) (length op) block (j / 64) l (part_of width j u)) in
+      let place : (length present + block) * parts width + j / 64 ≡ length heads + k = omega (arith, packed.long) in
+      ap (λ p. column_word p (words ++ ow) (get_or (heads ++ moved_heads) ((length present + block) * parts width + j / 64) no_head) (63 - j % 64)) (behind_row block)
+      ∙ ap (λ i. column_word (get_or op block 0) (words ++ ow) (get_or (heads ++ moved_heads) i no_head) (63 - j % 64)) place
+      ∙ ap (λ h. column_word (get_or op block 0) (words ++ ow) h (63 - j % 64)) (head_moved k at)
+      ∙ column_moved (get_or op block 0) by words ow (get_or oh k no_head) (63 - j % 64) is
+
+  pub behind_is : AreBehind (unpacked width present heads words) (unpacked width op oh ow) (unpacked width (present ++ op) (heads ++ moved_heads) (words ++ ow))
+  behind_is = record {
+    wide = refl;
+    long = blocks_long width (present ++ op) (heads ++ moved_heads) (words ++ ow) ∙ length-append present op ∙ omega (arith, blocks_long width present heads words, blocks_long width op oh ow);
+    before = λ block line l u.
+        let under : block < length present = omega (arith, blocks_long width present heads words) in
+        word_is width (present ++ op) (heads ++ moved_heads) (words ++ ow) block line (omega (arith, length-append present op)) u
+        ∙ old_word width present (present ++ op) heads (heads ++ moved_heads) words (words ++ ow) packed (begins_more present present op (begins_same present)) (begins_more heads heads moved_heads (begins_same heads)) (begins_more words words ow (begins_same words)) block line under u
+        ∙ sym (word_is width present heads words block line under u);
+    behind = λ block line u.
+        ap (λ b. word_at (unpacked width (present ++ op) (heads ++ moved_heads) (words ++ ow)) (b + block) line) (blocks_long width present heads words)
+        ∙ elim (cases_lt block (length op)) [
+          | inl less ↦
+              word_is width (present ++ op) (heads ++ moved_heads) (words ++ ow) (length present + block) line (omega (arith, length-append present op)) u
+              ∙ behind_word block line less u ∙ sym (word_is width op oh ow block line less u)
+          | inr past ↦
+              word_past width (present ++ op) (heads ++ moved_heads) (words ++ ow) (length present + block) line (omega (arith, length-append present op))
+              ∙ sym (word_past width op oh ow block line past)
+        ];
+  }
+
+  pub behind_packed : ArePacked width (present ++ op) (heads ++ moved_heads) (words ++ ow)
+  behind_packed = record {
+    narrow = packed.narrow;
+    long = length-append heads moved_heads ∙ omega (arith, packed.long, other.long, length-map oh (moved by), mul_add) ∙ ap (λ k. k * parts width) (sym (length-append present op));
+    inside = λ k l. elim (cases_lt k (length heads)) [
+      | inl old ↦ subst (λ h. IsInside h (words ++ ow)) (sym (get_or_append_left heads moved_heads no_head k old)) (omega (arith, packed.inside k old, length-append words ow))
+      | inr new ↦
+          let place : length heads + (k - length heads) ≡ k = omega arith in
+          let under : k - length heads < length oh = omega (arith, length-append heads moved_heads, length-map oh (moved by)) in
+          subst (λ i. IsInside (get_or (heads ++ moved_heads) i no_head) (words ++ ow)) place
+          (subst (λ h. IsInside h (words ++ ow)) (sym (head_moved (k - length heads) under)) (omega (arith, is, other.inside (k - length heads) under, length-append words ow)))
+    ];
+  }
+    where
+      mul_add : (length present + length op) * parts width ≡ length present * parts width + length op * parts width
+      mul_add = omega arith

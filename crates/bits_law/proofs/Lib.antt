@@ -2,9 +2,12 @@ pub mod BitwiseLemmas
 pub mod NumberLemmas
 pub mod RefusalLemmas
 pub mod AnswerLemmas
-pub mod TableLemmas
 pub mod WordBits
-pub mod MarkLemmas
+pub mod PackLemmas
 pub mod BlockLemmas
+pub mod StoreLemmas
+pub mod HeldLemmas
 pub mod AskLemmas
-pub mod MergeLemmas
+pub mod TableLemmas
+pub mod ViewLemmas
+pub mod PlaneLemmas

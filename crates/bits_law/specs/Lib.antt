@@ -4,3 +4,4 @@ pub mod Keys
 pub mod Numbers
 pub mod Contents
 pub mod Blocks
+pub mod Packed

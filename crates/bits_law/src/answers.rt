@@ -1,11 +1,19 @@
-ghost use Rattle.std.specs.Prelude.{◌≡◌, ℕ, ◌+◌, ◌-◌, ◌*◌, ◌/◌, ◌%◌, ◌^◌, ◌<◌, ◌≤◌, ◌&&◌, ◌||◌, Bool, true, false, not, List, length, get_or, IfOk, nat_eq, nat_lt, if◌then◌else◌};
+ghost use Rattle.std.specs.Prelude.{◌≡◌, ℕ, ◌+◌, ◌-◌, ◌*◌, ◌/◌, ◌%◌, ◌^◌, ◌<◌, ◌≤◌, ◌&&◌, ◌||◌, Bool, true, false, not, List, [], length, get_or, IfOk, nat_eq, nat_lt, if◌then◌else◌};
 ghost use Rattle.bits_law.specs.Numbers.{has_bit, holds, IsAnswer};
-ghost use Rattle.bits_law.specs.Blocks.{blocks, line_of, asked_rows, number_in, IsLaid};
+ghost use Rattle.bits_law.specs.Blocks.{blocks, block_in, bit_in, line_of, asked_rows, number_in};
 
 use crate::bits::Bits;
-use crate::blocks::blocks_of;
+use crate::packed::Blocks;
 use crate::slices::{Order, has_bit};
 use std::alloc::{AllocError, Global};
+
+/// How many blocks of 64 rows hold `rows` rows.
+fn blocks_of(rows: u64) -> usize
+    requires { rows ≤ 2 ^ 40 }
+    ensures { result ≡ blocks rows }
+{
+    ((rows + 63) / 64) as usize
+}
 
 /// The bits of a block whose number, as far as it is read, is below the key's, and those where the two are equal.
 #[derive(Clone, Copy)]
@@ -67,19 +75,29 @@ impl Halves {
     }
 }
 
-/// Splits the bits of `among` by the number that `count` words from `first` on spell, from the highest word down.
+/// The rows of a block that are asked: all, or those that have a key.
+fn asked(blocks: &Blocks, block: usize, all: bool) -> u64
+    requires { block < length blocks.now.blocks }
+    ensures { (i : ℕ) → i < 64 → has_bit result i ≡ (all || has_bit (get_or (get_or blocks.now.blocks block []) 0 0) i) }
+{
+    if all { u64::MAX } else { blocks.word(block, 0) }
+}
+
+/// Splits the bits of `among` by the number that `count` lines of a block from `first` on spell, from the highest down.
 /// Nothing more is read once no number is equal to the key's first bits.
-fn split(words: &[u64], first: usize, count: usize, key: u64, among: u64) -> Halves
+fn split(blocks: &Blocks, block: usize, first: usize, count: usize, key: u64, among: u64) -> Halves
     requires few { count ≤ 64 }
-    requires inside { first + count ≤ length words.now }
-    ensures below { (i : ℕ) → i < 64 → has_bit result.below i ≡ (has_bit among i && nat_lt (number_in words.now first count i) key) }
-    ensures equal { (i : ℕ) → i < 64 → has_bit result.equal i ≡ (has_bit among i && nat_eq (number_in words.now first count i) key) }
+    requires block { block < length blocks.now.blocks }
+    requires inside { first + count ≤ blocks.now.width + 1 }
+    requires narrow { first ≤ 2 ^ 40 }
+    ensures below { (i : ℕ) → i < 64 → has_bit result.below i ≡ (has_bit among i && nat_lt (number_in (get_or blocks.now.blocks block []) first count i) key) }
+    ensures equal { (i : ℕ) → i < 64 → has_bit result.equal i ≡ (has_bit among i && nat_eq (number_in (get_or blocks.now.blocks block []) first count i) key) }
 {
     let mut halves = Halves::begin(count, key, among);
     let mut j = 0;
     while j < count && halves.equal != 0 {
         let bit = has_bit(key, count - 1 - j);
-        halves = halves.narrow(words[first + j], bit);
+        halves = halves.narrow(blocks.word(block, first + j), bit);
         j += 1;
     }
     halves
@@ -96,46 +114,60 @@ pub(crate) struct Question {
 }
 
 impl Question {
-    /// The answer in one block, whose words begin at `start`, among the rows of `among`.
-    fn block(&self, words: &[u64], start: usize, among: u64) -> u64
+    /// The answer in one block, among all of its rows or those that have a key.
+    fn block(&self, blocks: &Blocks, block: usize, all: bool) -> u64
         requires few { self.now.count ≤ 64 }
-        requires inside { start + (self.now.first + self.now.count) ≤ length words.now }
-        ensures { (i : ℕ) → i < 64 → has_bit result i ≡ (has_bit among i && holds self.now.rel (number_in words.now (start + self.now.first) self.now.count i) self.now.key) }
+        requires block { block < length blocks.now.blocks }
+        requires inside { self.now.first + self.now.count ≤ blocks.now.width + 1 }
+        requires narrow { self.now.first ≤ 2 ^ 40 }
+        ensures { (i : ℕ) → i < 64 → has_bit result i ≡ ((all || has_bit (get_or (get_or blocks.now.blocks block []) 0 0) i) && holds self.now.rel (number_in (get_or blocks.now.blocks block []) self.now.first self.now.count i) self.now.key) }
     {
-        let halves = split(words, start + self.first, self.count, self.key, among);
+        let among = asked(blocks, block, all);
+        let halves = split(blocks, block, self.first, self.count, self.key, among);
         among & halves.related(self.rel)
+    }
+
+    /// The answer in a block of `blocks`, or in the one behind them, which is `last`.
+    fn word(&self, blocks: &Blocks, last: &Blocks, block: usize, all: bool) -> u64
+        requires few { self.now.count ≤ 64 }
+        requires block { block ≤ length blocks.now.blocks }
+        requires one { length last.now.blocks ≡ 1 }
+        requires width { last.now.width ≡ blocks.now.width }
+        requires inside { self.now.first + self.now.count ≤ blocks.now.width + 1 }
+        requires narrow { self.now.first ≤ 2 ^ 40 }
+        ensures { (i : ℕ) → i < 64 → has_bit result i ≡ ((all || has_bit (get_or (block_in blocks.now last.now block) 0 0) i) && holds self.now.rel (number_in (block_in blocks.now last.now block) self.now.first self.now.count i) self.now.key) }
+    {
+        if block < blocks.count() {
+            self.block(blocks, block, all)
+        } else {
+            self.block(last, 0, all)
+        }
     }
 }
 
-/// The rows of a block that are asked: all, or those that have a key.
-fn asked(words: &[u64], start: usize, all: bool) -> u64
-    requires { start < length words.now }
-    ensures { (i : ℕ) → i < 64 → has_bit result i ≡ (all || has_bit (get_or words.now start 0) i) }
-{
-    if all { u64::MAX } else { words[start] }
-}
-
-/// The answer row by row, of all rows or of those that have a key.
+/// The answer row by row, of all rows or of those that have a key. The rows stand in `blocks`, and those behind in
+/// `last`.
 pub(crate) fn answer<B: Bits>(
+    blocks: &Blocks,
+    last: &Blocks,
     alloc: Global,
-    words: &[u64],
-    stride: usize,
     rows: u64,
     all: bool,
     question: Question,
 ) -> Result<B, AllocError>
-    requires laid { IsLaid words.now stride rows }
-    requires some { 0 < stride }
+    requires short { rows ≤ 2 ^ 40 }
+    requires near { rows ≤ 64 * length blocks.now.blocks + 64 }
+    requires one { length last.now.blocks ≡ 1 }
+    requires width { last.now.width ≡ blocks.now.width }
     requires few { question.count ≤ 64 }
-    requires within { question.first + question.count ≤ stride }
-    ensures { IfOk result (λ b. IsAnswer (B.bits b) (asked_rows words.now stride rows all) (λ row. holds question.rel (number_in words.now (row / 64 * stride + question.first) question.count (row % 64)) question.key)) }
+    requires within { question.first + question.count ≤ blocks.now.width + 1 }
+    requires narrow { question.first ≤ 2 ^ 40 }
+    ensures { IfOk result (λ b. IsAnswer (B.bits b) (asked_rows (bit_in blocks.now last.now) rows all) (λ row. holds question.rel (number_in (block_in blocks.now last.now (row / 64)) question.first question.count (row % 64)) question.key)) }
 {
     let mut bits = B::empty(alloc);
     for block in 0..blocks_of(rows) {
-        let start = block * stride;
-        let among = asked(words, start, all);
         let n = (rows - 64 * block as u64).min(64);
-        let word = question.block(words, start, among);
+        let word = question.word(blocks, last, block, all);
         match bits.push_word(word, n) {
             Ok(()) => {}
             Err(_) => return Err(AllocError),
@@ -144,22 +176,40 @@ pub(crate) fn answer<B: Bits>(
     Ok(bits)
 }
 
+/// The word of a line in a block of `blocks`, or in the one behind them, which is `last`.
+fn word(blocks: &Blocks, last: &Blocks, block: usize, at: usize) -> u64
+    requires block { block ≤ length blocks.now.blocks }
+    requires one { length last.now.blocks ≡ 1 }
+    requires width { last.now.width ≡ blocks.now.width }
+    requires at { at ≤ blocks.now.width }
+    ensures { result ≡ get_or (block_in blocks.now last.now block) at 0 }
+{
+    if block < blocks.count() {
+        blocks.word(block, at)
+    } else {
+        last.word(0, at)
+    }
+}
+
 /// A line's bits.
 pub(crate) fn line<B: Bits>(
+    blocks: &Blocks,
+    last: &Blocks,
     alloc: Global,
-    words: &[u64],
-    stride: usize,
     rows: u64,
     at: usize,
 ) -> Result<B, AllocError>
-    requires laid { IsLaid words.now stride rows }
-    requires within { at < stride }
-    ensures { IfOk result (λ b. B.bits b ≡ line_of words.now stride rows at) }
+    requires short { rows ≤ 2 ^ 40 }
+    requires near { rows ≤ 64 * length blocks.now.blocks + 64 }
+    requires one { length last.now.blocks ≡ 1 }
+    requires width { last.now.width ≡ blocks.now.width }
+    requires within { at ≤ blocks.now.width }
+    ensures { IfOk result (λ b. B.bits b ≡ line_of (bit_in blocks.now last.now) rows at) }
 {
     let mut bits = B::empty(alloc);
     for block in 0..blocks_of(rows) {
         let n = (rows - 64 * block as u64).min(64);
-        match bits.push_word(words[block * stride + at], n) {
+        match bits.push_word(word(blocks, last, block, at), n) {
             Ok(()) => {}
             Err(_) => return Err(AllocError),
         }

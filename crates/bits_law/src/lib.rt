@@ -6,10 +6,14 @@
 
 mod answers;
 mod bits;
-mod blocks;
+mod head;
+mod packed;
+mod row_bits;
 mod slices;
+mod store;
 mod table;
 
 pub use bits::{Bits, BitsEnd, LONGEST};
+pub use row_bits::RowBits;
 pub use slices::{Order, slices_ask};
-pub use table::{RowBits, Table};
+pub use table::Table;

@@ -6,54 +6,36 @@ ghost use Rattle.bits_law.specs.Refusal.{refusal, rows_to};
 
 use crate::answers::{Question, answer, line};
 use crate::bits::{Bits, BitsEnd, LONGEST};
-use crate::blocks::{grow, join, mark_row};
+use crate::row_bits::RowBits;
 use crate::slices::Order;
+use crate::store::Store;
 use std::alloc::{AllocError, Global};
 use std::marker::{Model, PhantomData};
 
-/// The bits that a key sets in a table, column by column.
-pub trait RowBits {
-    /// Whether a column's bit is set.
-    ghost bit: { Self → ℕ → Bool };
-
-    /// Whether the bit of `column` is set.
-    fn bit(&self, column: usize) -> bool
-        ensures { result ≡ bit self.now column };
-
-    /// The bits of the 64 columns from 64 `part` on, the first column's highest.
-    fn word(&self, part: usize) -> u64
-        requires { part < 2 ^ 57 }
-        ensures { (j : ℕ) → j < 64 → has_bit result (63 - j) ≡ bit self.now (64 * part + j) }
-    {
-        let mut word = 0;
-        for j in 0..64 {
-            word = 2 * word + self.bit(64 * part + j) as u64;
-        }
-        word
-    }
-}
-
 /// The rows of a list of keys in blocks of 64: in each block a word of the rows that have a key, and one for each bit
-/// that a key may set. The newest rows stand in the last block, whose bits past them are 0.
+/// that a key may set, of which those that are equal at all keys of a block aren't kept. The newest keys wait until
+/// their block is whole.
 #[derive(Drop)]
 pub struct Table<B: Bits> {
-    width: usize,
     rows: u64,
-    words: Vec<u64>,
+    store: Store,
     answers: PhantomData<B>,
 }
 
 impl<B: Bits> Model for Table<B> {
-    ghost use Rattle.std.specs.Prelude.{◌+◌, ◌^◌, ◌<◌};
+    ghost use Rattle.std.specs.Prelude.{◌^◌, ◌≤◌, length};
     ghost use Rattle.bits_law.specs.Contents.{Contents};
-    ghost use Rattle.bits_law.specs.Blocks.{held, IsLaid};
+    ghost use Rattle.bits_law.specs.Blocks.{held, bit_at, IsLaid};
 
     ghost Value = { Contents };
 
-    ghost view = { λ t. held t.words.items t.width t.rows };
+    ghost view = { λ t. held (bit_at t.store.blocks t.store.keys.items t.store.taken) t.store.blocks.width t.rows };
 
-    ghost invariant = { λ t. IsLaid t.words.items (t.width + 1) t.rows × (t.width + 1 < 2 ^ 64) };
+    ghost invariant = { λ t. IsLaid (bit_at t.store.blocks t.store.keys.items t.store.taken) t.store.blocks.width t.rows (length t.store.blocks.blocks) × (t.store.blocks.width ≤ 2 ^ 32) };
 }
+
+/// The most columns of a table.
+const MOST_COLUMNS: usize = 1 << 32;
 
 impl<B: Bits> Table<B> {
     /// A table with no rows, and `width` columns.
@@ -62,20 +44,19 @@ impl<B: Bits> Table<B> {
         ensures wide { IfOk result (λ t. length t.columns ≡ width) }
         ensures column { IfOk result (λ t. (j : ℕ) → j < width → get_or t.columns j [] ≡ []) }
     {
-        if width == usize::MAX {
+        if width > MOST_COLUMNS {
             return Err(AllocError);
         }
         Ok(Table {
-            width,
             rows: 0,
-            words: Vec::new(alloc),
+            store: Store::new(alloc, width)?,
             answers: PhantomData,
         })
     }
 
     /// The allocator that the table was made with.
     pub fn alloc(&self) -> Global {
-        *self.words.allocator()
+        self.store.alloc()
     }
 
     /// How many rows there are.
@@ -102,10 +83,7 @@ impl<B: Bits> Table<B> {
             let more = (row - have).saturating_add(1);
             return Err(BitsEnd::TooLong { have, more });
         }
-        let stride = self.width + 1;
-        grow(&mut self.words, stride, row + 1)?;
-        let first = (row / 64) as usize * stride;
-        mark_row(&mut self.words, first, self.width, row % 64, key);
+        self.store.put(row, key)?;
         self.rows = row + 1;
         Ok(())
     }
@@ -138,7 +116,7 @@ impl<B: Bits> Table<B> {
             let more = rows - have;
             return Err(BitsEnd::TooLong { have, more });
         }
-        grow(&mut table.words, table.width + 1, rows)?;
+        table.store.reach((rows / 64) as usize)?;
         table.rows = rows;
         Ok(table)
     }
@@ -152,24 +130,25 @@ impl<B: Bits> Table<B> {
         ensures fits { OnOk result (length self.present + length other.now.present ≤ 2 ^ 40) }
         ensures end { IfErr result (λ e. e ≡ refusal (length self.present) (length other.now.present)) }
     {
-        let mut table = self;
-        let have = table.rows();
+        let have = self.rows();
         let more = other.rows();
         if more > LONGEST - have {
             return Err(BitsEnd::TooLong { have, more });
         }
-        let stride = table.width + 1;
-        grow(&mut table.words, stride, table.rows + other.rows)?;
-        join(&mut table.words, stride, table.rows, &other.words);
-        table.rows += other.rows;
-        Ok(table)
+        let Table { store, answers, .. } = self;
+        Ok(Table {
+            rows: have + more,
+            store: store.join(&other.store, have, more)?,
+            answers,
+        })
     }
 
     /// The rows that have a key, as a bitmap.
     pub fn present(&self) -> Result<B, AllocError>
         ensures { IfOk result (λ b. B.bits b ≡ self.now.present) }
     {
-        line(self.alloc(), &self.words, self.width + 1, self.rows, 0)
+        let last = self.store.last()?;
+        line(&self.store.blocks, &last, self.alloc(), self.rows, 0)
     }
 
     /// A column, as a bitmap.
@@ -178,8 +157,8 @@ impl<B: Bits> Table<B> {
         ensures value { IfOk result (λ b. B.bits b ≡ get_or self.now.columns at []) }
         ensures rows { IfOk result (λ b. length (B.bits b) ≡ length self.now.present) }
     {
-        let stride = self.width + 1;
-        line(self.alloc(), &self.words, stride, self.rows, at + 1)
+        let last = self.store.last()?;
+        line(&self.store.blocks, &last, self.alloc(), self.rows, at + 1)
     }
 
     /// The rows that have a key, where the number that `count` columns from `from` on spell, the highest first, stands
@@ -189,7 +168,7 @@ impl<B: Bits> Table<B> {
         requires within { from + count ≤ length self.now.columns }
         ensures { IfOk result (λ b. IsAnswer (B.bits b) self.now.present (λ row. holds rel (number_at (take count (drop from self.now.columns)) row) key)) }
     {
-        let stride = self.width + 1;
+        let last = self.store.last()?;
         let question = Question {
             first: from + 1,
             count,
@@ -197,9 +176,9 @@ impl<B: Bits> Table<B> {
             key,
         };
         answer(
+            &self.store.blocks,
+            &last,
             self.alloc(),
-            &self.words,
-            stride,
             self.rows,
             false,
             question,
@@ -221,14 +200,21 @@ impl<B: Bits> Table<B> {
         requires within { from + count ≤ length self.now.columns }
         ensures { IfOk result (λ b. IsAnswer (B.bits b) (B.bits among.now) (λ row. holds rel (number_at (take count (drop from self.now.columns)) row) key)) }
     {
-        let stride = self.width + 1;
+        let last = self.store.last()?;
         let question = Question {
             first: from + 1,
             count,
             rel,
             key,
         };
-        let all: B = answer(self.alloc(), &self.words, stride, self.rows, true, question)?;
+        let all: B = answer(
+            &self.store.blocks,
+            &last,
+            self.alloc(),
+            self.rows,
+            true,
+            question,
+        )?;
         among.and(&all)
     }
 }

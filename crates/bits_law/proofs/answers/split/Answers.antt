@@ -1,4 +1,4 @@
-use Rattle.std.proofs.Common.{◌≡◌, refl, arith}
+use Rattle.std.proofs.Common.{◌≡◌, [], get_or, refl, arith}
 use Rattle.bits_law.proofs.AskLemmas.{halves_more, halves_all, halves_settled}
 use Rattle.bits_law.proofs.answers.split.Goals as goal
 
@@ -9,33 +9,36 @@ loop-j-preserved c =
     let next = c.narrow-halves.result in
     record {
       within = omega arith;
-      halves = halves_more a.words.now a.first a.count a.key a.among h.below h.equal next.below next.equal _ c.loop-j.j c.has_bit-bit.result c.loop-j-test.true c.has_bit-bit.ensures refl c.narrow-halves.ensures.below c.narrow-halves.ensures.equal c.loop-j.invariant.halves;
+      halves = halves_more (get_or a.blocks.now.blocks a.block []) a.first a.count a.key a.among h.below h.equal next.below next.equal _ c.loop-j.j c.has_bit-bit.result c.loop-j-test.true c.has_bit-bit.ensures c.word.ensures c.narrow-halves.ensures.below c.narrow-halves.ensures.equal c.loop-j.invariant.halves;
     }
 
 pub returns-else-halves-ne0-clause-below : goal.returns-else-halves-ne0-clause-below
 returns-else-halves-ne0-clause-below c =
     let a = c.args in
     let h = c.loop-j.halves in
-    (halves_all a.words.now a.first a.count a.key a.among h.below h.equal a.count refl
-    (halves_settled a.words.now a.first a.count a.key a.among h.below h.equal c.loop-j.j c.loop-j.invariant.within c.if-halves-ne0.false c.loop-j.invariant.halves)).0
+    (halves_all (get_or a.blocks.now.blocks a.block []) a.first a.count a.key a.among h.below h.equal a.count refl
+    (halves_settled (get_or a.blocks.now.blocks a.block []) a.first a.count a.key a.among h.below h.equal c.loop-j.j c.loop-j.invariant.within c.if-halves-ne0.false c.loop-j.invariant.halves)).0
 
 pub returns-else-halves-ne0-clause-equal : goal.returns-else-halves-ne0-clause-equal
 returns-else-halves-ne0-clause-equal c =
     let a = c.args in
     let h = c.loop-j.halves in
-    (halves_all a.words.now a.first a.count a.key a.among h.below h.equal a.count refl
-    (halves_settled a.words.now a.first a.count a.key a.among h.below h.equal c.loop-j.j c.loop-j.invariant.within c.if-halves-ne0.false c.loop-j.invariant.halves)).1
+    (halves_all (get_or a.blocks.now.blocks a.block []) a.first a.count a.key a.among h.below h.equal a.count refl
+    (halves_settled (get_or a.blocks.now.blocks a.block []) a.first a.count a.key a.among h.below h.equal c.loop-j.j c.loop-j.invariant.within c.if-halves-ne0.false c.loop-j.invariant.halves)).1
 
 pub returns-after-loop-j-clause-below : goal.returns-after-loop-j-clause-below
 returns-after-loop-j-clause-below c =
     let a = c.args in
     let h = c.loop-j.halves in
     let end : c.loop-j.j ≡ a.count = omega (arith, c.loop-j.invariant.within) in
-    (halves_all a.words.now a.first a.count a.key a.among h.below h.equal c.loop-j.j end c.loop-j.invariant.halves).0
+    (halves_all (get_or a.blocks.now.blocks a.block []) a.first a.count a.key a.among h.below h.equal c.loop-j.j end c.loop-j.invariant.halves).0
 
 pub returns-after-loop-j-clause-equal : goal.returns-after-loop-j-clause-equal
 returns-after-loop-j-clause-equal c =
     let a = c.args in
     let h = c.loop-j.halves in
     let end : c.loop-j.j ≡ a.count = omega (arith, c.loop-j.invariant.within) in
-    (halves_all a.words.now a.first a.count a.key a.among h.below h.equal c.loop-j.j end c.loop-j.invariant.halves).1
+    (halves_all (get_or a.blocks.now.blocks a.block []) a.first a.count a.key a.among h.below h.equal c.loop-j.j end c.loop-j.invariant.halves).1
+
+pub overflow_add-first : goal.overflow_add-first
+overflow_add-first c = omega (arith, c.requires.narrow, c.requires.few, c.loop-j-test.true)
