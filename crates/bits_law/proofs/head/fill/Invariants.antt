@@ -1,4 +1,4 @@
-use Rattle.std.proofs.Common.{ℕ, ◌≡◌, ◌+◌, ◌*◌, ◌/◌, ◌<◌, ◌≤◌, ◌&&◌, length, get_or}
+use Rattle.std.proofs.Common.{◌≡◌, ◌+◌, ◌*◌, ◌/◌, ◌<◌, ◌≤◌, ◌&&◌, length, get_or}
 use Rattle.bits_law.specs.Numbers.{has_bit}
 use Rattle.bits_law.specs.Packed.{IsPlane, AreFilled}
 use Rattle.bits_law.proofs.head.fill.Given as goal
