@@ -24,6 +24,7 @@ use Rattle.vast.specs.declared.status.Status.TheVariants as status
 use Rattle.vast.specs.declared.report.WriteEnd.{WriteEnd}
 use Rattle.vast.specs.declared.report.WriteEnd.TheVariants as write
 use Rattle.vast.specs.Causes.{TellsText, Tells, TellsOf, TellsSome, IsFault, ReadsWell, LeavesNothing, SinkStands}
+use Rattle.vast.specs.Writing.{Sends}
 use Rattle.vast.specs.Reports.{Moves, HasCells, heading_after, status_of}
 
 -- ---- the source's bytes
@@ -152,6 +153,24 @@ going_moves whole behind behind_now held held_now reader x left left_now before 
       text = λ more stop may.
           so.text more stop may ∙ ap (λ (t : List ℕ). so.sent ++ t) (moves.text (to_come reader more stop))
           ∙ sym (append_assoc so.sent moves.sent (held_now ++ behind_now (to_come reader more stop)));
+      ends = so.ends;
+      met = so.met;
+    }
+
+-- some of what is held was written
+pub going_sends : (whole behind : Steps → List ℕ) (held held_now : List ℕ) (reader : Reading) (left left_now before mid now : Option (List ℕ))
+    → Going whole behind held reader left left_now before mid → Sends held held_now mid now → Going whole behind held_now reader left left_now before now
+going_sends whole behind held held_now reader left left_now before mid now so sends =
+    record {
+      took = so.took;
+      left = so.left;
+      count = so.count;
+      sent = so.sent ++ sends.sent;
+      written = sends.is ∙ ap (λ (k : Option (List ℕ)). append_known k sends.sent) so.written ∙ append_known-append before so.sent sends.sent;
+      text = λ more stop may.
+          so.text more stop may ∙ ap (λ (t : List ℕ). so.sent ++ (t ++ behind (to_come reader more stop))) sends.split
+          ∙ ap (λ (t : List ℕ). so.sent ++ t) (append_assoc sends.sent held_now (behind (to_come reader more stop)))
+          ∙ sym (append_assoc so.sent sends.sent (held_now ++ behind (to_come reader more stop)));
       ends = so.ends;
       met = so.met;
     }
