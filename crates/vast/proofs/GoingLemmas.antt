@@ -175,6 +175,15 @@ going_sends whole behind held held_now reader left left_now before mid now so se
       met = so.met;
     }
 
+-- no more was taken of the source
+pub going_left : (whole behind : Steps → List ℕ) (held : List ℕ) (reader : Reading) (left mid left_now before now : Option (List ℕ))
+    → Going whole behind held reader left mid before now → left_now ≡ mid → Going whole behind held reader left left_now before now
+going_left whole behind held reader left mid left_now before now so same = subst (λ (k : Option (List ℕ)). Going whole behind held reader left k before now) (sym same) so
+
+-- a part of what is held is a part of it with what is to be told
+pub part_held : (behind : Steps → List ℕ) (held : List ℕ) (before now : Option (List ℕ)) → WritesPart before now held → (rest : Steps) → WritesPart before now (held ++ behind rest)
+part_held behind held before now part rest = part_longer before now held (behind rest) part
+
 -- ---- a text that was cut off
 
 -- what may follow as the source is

@@ -1,15 +1,14 @@
 //! What a command tells of a log.
-ghost use Rattle.std.specs.Prelude.{◌≡◌, ◌≢◌, ℕ, ◌+◌, ◌<◌, ◌≤◌, ◌^◌, ◌++◌, List, Option, None, is_some, IfOk, OnOk, OnErr, IsErrOf};
+ghost use Rattle.std.specs.Prelude.{◌≡◌, ◌≢◌, ℕ, ◌+◌, ◌<◌, ◌≤◌, ◌^◌, ◌++◌, List, Option, None, is_some, IfOk, OnOk, IsErrOf};
 ghost use Rattle.std.specs.Option.{option_map};
-ghost use Rattle.vast_io.specs.Causes.{HasCause, Rose};
+ghost use Rattle.vast_io.specs.Causes.{Rose};
 ghost use Rattle.vast_io.specs.Told.{WritesPart};
 ghost use Rattle.vast_value.specs.Headings.{Heading, heading_of};
-ghost use Rattle.zeek_log.specs.Going.{lines_left};
-ghost use Rattle.zeek_log.specs.Reader.{CountsOf, Follows, StepHas, heading_told, moved_to, step_at};
+ghost use Rattle.zeek_log.specs.Reader.{heading_told, step_at};
 ghost use Rattle.zeek_log.specs.Steps.{Steps, ended, first};
 ghost use Rattle.vast.specs.declared.report.WriteEnd.TheVariants.{Memory, Failed as SinkFailed};
 ghost use Rattle.vast.specs.Causes.{TellsOf, TellsSome, TellsText, IsOfReport, ReadsWell, LeavesNothing, SinkStands};
-ghost use Rattle.vast.specs.Writing.{Sends};
+ghost use Rattle.vast.specs.Going.{GoesTo, SendsAt, IsCauseAt};
 ghost use Rattle.vast.specs.Reports.{Carries, HasCells, Moves, heading_after, status_of};
 
 use crate::buffer::Buffer;
@@ -117,44 +116,52 @@ pub fn write_report<W: Report, S: Source, K: Sink>(
     let mut buffer = buffer;
     loop {
         match go_on(alloc, &mut reader, source, &mut buffer, sink) {
-            Ok(Ok(moved)) => {
+            Next::Step(moved) => {
                 if let Err(end) = write_step(alloc, report, &reader, moved, &mut buffer, sink) {
                     return end.status();
                 }
             }
-            Ok(Err(end)) => return write_end(report, end, &mut buffer, sink),
-            Err(Failed) => return Status::WriteFault,
+            Next::Ended(end) => return write_end(report, end, &mut buffer, sink),
+            Next::Refused => return Status::WriteFault,
         }
     }
 }
 
+/// How a report goes on.
+#[derive(Clone, Copy, Debug, PartialEq, Eq)]
+enum Next {
+    /// By a step.
+    Step(Moved),
+    /// The log ended.
+    Ended(ZeekEnd),
+    /// The sink failed before either.
+    Refused,
+}
+
 // Goes on to the next step. What is gathered is written before more of the source is read, so that nothing that was told
-// waits for a source. `Err` comes where the sink failed, before a step was taken.
+// waits for a source.
 fn go_on<S: Source, K: Sink>(
     alloc: Global,
     reader: &mut ZeekReader,
     source: &mut S,
     buffer: &mut Buffer,
     sink: &mut K,
-) -> Result<Result<Moved, ZeekEnd>, Failed>
-    ensures next { IfOk result (λ answer. Follows reader.old.at.state reader.old.at reader.new.at (S.left source.old) (S.left source.new) (moved_to reader.new answer)) }
-    ensures counts { IfOk result (λ answer. CountsOf reader.old.at.state (moved_to reader.new answer) (S.faults source.old) (S.faults source.new)) }
-    ensures has { IfOk result (λ answer. IfOk answer (λ moved. StepHas (heading_told reader.old.at.state) (heading_told reader.new.at.state) (step_at reader.new moved))) }
+) -> Next
+    ensures goes { GoesTo result reader.old reader.new (S.left source.old) (S.left source.new) (S.faults source.old) (S.faults source.new) }
     ensures tells { is_some (S.left source.new) ≡ is_some (S.left source.old) }
-    ensures less { IfOk result (λ answer. OnOk answer (lines_left reader.new.at.state < lines_left reader.old.at.state)) }
-    ensures sends { OnOk result (Sends buffer.old.text buffer.new.text (K.written sink.old) (K.written sink.new)) }
-    ensures part { OnErr result (WritesPart (K.written sink.old) (K.written sink.new) buffer.old.text) }
-    ensures cause { HasCause (K.faults sink.old) (K.faults sink.new) result }
-    ensures left { OnErr result (S.left source.new ≡ S.left source.old) }
-    ensures faults { OnErr result (S.faults source.new ≡ S.faults source.old) }
+    ensures sends { SendsAt result buffer.old.text buffer.new.text (K.written sink.old) (K.written sink.new) }
+    ensures cause { IsCauseAt result (K.faults sink.old) (K.faults sink.new) }
 {
     if reader.advance_in_place() {
-        return Ok(Ok(Moved::Line));
+        return Next::Step(Moved::Line);
     }
-    if !reader.holds_row() {
-        buffer.write(sink)?;
+    if !reader.holds_row() && buffer.write(sink).is_err() {
+        return Next::Refused;
     }
-    Ok(reader.advance_by_reading(alloc, source))
+    match reader.advance_by_reading(alloc, source) {
+        Ok(moved) => Next::Step(moved),
+        Err(end) => Next::Ended(end),
+    }
 }
 
 /// A copy of the layout of the last head, if it stands.
