@@ -24,6 +24,7 @@ use Rattle.vast.specs.declared.status.Status.TheVariants as status
 use Rattle.vast.specs.declared.report.WriteEnd.{WriteEnd}
 use Rattle.vast.specs.declared.report.WriteEnd.TheVariants as write
 use Rattle.vast.specs.Causes.{TellsText, Tells, TellsOf, TellsSome, IsFault, ReadsWell, LeavesNothing, SinkStands}
+use Rattle.vast.specs.Writing.{Sends}
 use Rattle.vast.specs.Reports.{Moves, HasCells, heading_after, status_of}
 
 -- ---- the source's bytes
@@ -155,6 +156,33 @@ going_moves whole behind behind_now held held_now reader x left left_now before 
       ends = so.ends;
       met = so.met;
     }
+
+-- some of what is held was written
+pub going_sends : (whole behind : Steps → List ℕ) (held held_now : List ℕ) (reader : Reading) (left left_now before mid now : Option (List ℕ))
+    → Going whole behind held reader left left_now before mid → Sends held held_now mid now → Going whole behind held_now reader left left_now before now
+going_sends whole behind held held_now reader left left_now before mid now so sends =
+    record {
+      took = so.took;
+      left = so.left;
+      count = so.count;
+      sent = so.sent ++ sends.sent;
+      written = sends.is ∙ ap (λ (k : Option (List ℕ)). append_known k sends.sent) so.written ∙ append_known-append before so.sent sends.sent;
+      text = λ more stop may.
+          so.text more stop may ∙ ap (λ (t : List ℕ). so.sent ++ (t ++ behind (to_come reader more stop))) sends.split
+          ∙ ap (λ (t : List ℕ). so.sent ++ t) (append_assoc sends.sent held_now (behind (to_come reader more stop)))
+          ∙ sym (append_assoc so.sent sends.sent (held_now ++ behind (to_come reader more stop)));
+      ends = so.ends;
+      met = so.met;
+    }
+
+-- no more was taken of the source
+pub going_left : (whole behind : Steps → List ℕ) (held : List ℕ) (reader : Reading) (left mid left_now before now : Option (List ℕ))
+    → Going whole behind held reader left mid before now → left_now ≡ mid → Going whole behind held reader left left_now before now
+going_left whole behind held reader left mid left_now before now so same = subst (λ (k : Option (List ℕ)). Going whole behind held reader left k before now) (sym same) so
+
+-- a part of what is held is a part of it with what is to be told
+pub part_held : (behind : Steps → List ℕ) (held : List ℕ) (before now : Option (List ℕ)) → WritesPart before now held → (rest : Steps) → WritesPart before now (held ++ behind rest)
+part_held behind held before now part rest = part_longer before now held (behind rest) part
 
 -- ---- a text that was cut off
 

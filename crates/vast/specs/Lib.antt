@@ -1,4 +1,5 @@
 pub mod Causes
+pub mod Going
 pub mod Numbers
 pub mod Reports
 pub mod Texts

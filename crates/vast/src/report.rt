@@ -8,6 +8,7 @@ ghost use Rattle.zeek_log.specs.Reader.{heading_told, step_at};
 ghost use Rattle.zeek_log.specs.Steps.{Steps, ended, first};
 ghost use Rattle.vast.specs.declared.report.WriteEnd.TheVariants.{Memory, Failed as SinkFailed};
 ghost use Rattle.vast.specs.Causes.{TellsOf, TellsSome, TellsText, IsOfReport, ReadsWell, LeavesNothing, SinkStands};
+ghost use Rattle.vast.specs.Going.{GoesTo, SendsAt, IsCauseAt};
 ghost use Rattle.vast.specs.Reports.{Carries, HasCells, Moves, heading_after, status_of};
 
 use crate::buffer::Buffer;
@@ -114,14 +115,52 @@ pub fn write_report<W: Report, S: Source, K: Sink>(
     let mut reader = reader;
     let mut buffer = buffer;
     loop {
-        match reader.advance(alloc, source) {
-            Ok(moved) => {
+        match go_on(alloc, &mut reader, source, &mut buffer, sink) {
+            Next::Step(moved) => {
                 if let Err(end) = write_step(alloc, report, &reader, moved, &mut buffer, sink) {
                     return end.status();
                 }
             }
-            Err(end) => return write_end(report, end, &mut buffer, sink),
+            Next::Ended(end) => return write_end(report, end, &mut buffer, sink),
+            Next::Refused => return Status::WriteFault,
         }
+    }
+}
+
+/// How a report goes on.
+#[derive(Clone, Copy, Debug, PartialEq, Eq)]
+enum Next {
+    /// By a step.
+    Step(Moved),
+    /// The log ended.
+    Ended(ZeekEnd),
+    /// The sink failed before either.
+    Refused,
+}
+
+// Goes on to the next step. What is gathered is written before more of the source is read, so that nothing that was told
+// waits for a source.
+fn go_on<S: Source, K: Sink>(
+    alloc: Global,
+    reader: &mut ZeekReader,
+    source: &mut S,
+    buffer: &mut Buffer,
+    sink: &mut K,
+) -> Next
+    ensures goes { GoesTo result reader.old reader.new (S.left source.old) (S.left source.new) (S.faults source.old) (S.faults source.new) }
+    ensures tells { is_some (S.left source.new) ≡ is_some (S.left source.old) }
+    ensures sends { SendsAt result buffer.old.text buffer.new.text (K.written sink.old) (K.written sink.new) }
+    ensures cause { IsCauseAt result (K.faults sink.old) (K.faults sink.new) }
+{
+    if reader.advance_in_place() {
+        return Next::Step(Moved::Line);
+    }
+    if !reader.holds_row() && buffer.write(sink).is_err() {
+        return Next::Refused;
+    }
+    match reader.advance_by_reading(alloc, source) {
+        Ok(moved) => Next::Step(moved),
+        Err(end) => Next::Ended(end),
     }
 }
 

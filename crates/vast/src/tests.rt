@@ -3,7 +3,7 @@ use crate::status::Status;
 use crate::top::run_still;
 use std::alloc::{AllocError, Global};
 use std::test::Fail;
-use vast_io::{File, Files, MemOpener, MemSink};
+use vast_io::{File, Files, MemOpener, MemSink, Source};
 use vast_value::Bytes;
 
 // A log of three columns and one row.
@@ -213,6 +213,53 @@ fn a_call_that_fails_is_told_by_its_status(rt: HostRuntime) -> Result<(), Fail> 
         let (ended, sink) = done(rt.alloc(), &["scan", "log", "n > 2"], ANN_AND_BOB, &outside)?;
         assert_eq!(rt; ended, status);
         assert_eq!(rt; sink.bytes(), text);
+    }
+    Ok(())
+}
+
+// A log whose first row has a comment and a row behind it.
+const ANN_CLOSED: &[u8] =
+    b"#separator \\x09\n#path\td\n#fields\tname\tkind\tn\n#types\tstring\tenum\tcount\nann\tA\t3\n#close\tx\nbob\tB\t4\n";
+
+// What was not read yet when the first match was written, where a read gives `piece` bytes: the sink fails there.
+fn left_at_the_first_match(alloc: Global, bytes: &[u8], piece: u32) -> Result<Vec<u8>, AllocError> {
+    let words = vec![in alloc;
+        String::from_str(alloc, "scan")?,
+        String::from_str(alloc, "log")?,
+        String::from_str(alloc, "n > 2")?,
+    ]?;
+    let outside = Outside {
+        piece,
+        write: 0,
+        ..CALM
+    };
+    let mut opener = opener(alloc, bytes, &outside)?;
+    let mut sink = MemSink::new(alloc, 200, 5, vec![in alloc; outside.write]?)?;
+    let ended = run_still(alloc, &words, &mut opener, &mut sink);
+    let mut left = Vec::new(alloc);
+    if let Some(source) = ended.rest {
+        let mut source = source;
+        let mut into = [0; 100];
+        while let Ok(count) = source.read(&mut into) {
+            if count == 0 {
+                break;
+            }
+            left.extend_from_slice(&into[..count])?;
+        }
+    }
+    Ok(left)
+}
+
+#[test]
+fn a_match_is_written_before_the_source_is_read_again(rt: HostRuntime) -> Result<(), Fail> {
+    let rows: [(u32, &[u8]); 3] = [
+        (1, b"#close\tx\nbob\tB\t4\n"),
+        (80, b"ose\tx\nbob\tB\t4\n"),
+        (86, b"bob\tB\t4\n"),
+    ];
+    for (piece, left) in rows {
+        let seen = left_at_the_first_match(rt.alloc(), ANN_CLOSED, piece)?;
+        assert_eq!(rt; seen.as_slice(), left);
     }
     Ok(())
 }

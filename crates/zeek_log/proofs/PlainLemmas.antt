@@ -1,10 +1,10 @@
 -- A line whose cells are seen to be well spelled is a row.
 use Rattle.std.proofs.Common.{◌≡◌, ◌≢◌, ℕ, zero, suc, ◌+◌, ◌-◌, ◌<◌, ◌≤◌, Bool, true, false, cond, eqb, List, [], ◌∷◌, ◌++◌, Option, None, Some, Result, Ok, Err, length, take, drop, get_or, map, refl, ap, sym, ◌∙◌, subst, arith, length-append, add-one}
 use Rattle.std.specs.Prelude.{IsSome, IsSomeAnd, ◌==◌, codes, slice_get}
-use Rattle.std.specs.List.{position_or_len, slice_split}
+use Rattle.std.specs.List.{flat_map, join_with_byte, position_or_len, slice_split}
 use Rattle.std.specs.Option.{option_map}
 use Rattle.std.proofs.lemmas.Bool.{eq-eqb, le-ltb, ne_eqb}
-use Rattle.std.proofs.lemmas.List.{drop-take, get_or-take, length-drop, length-take-le, take-take, take_all}
+use Rattle.std.proofs.lemmas.List.{append-nil, drop-take, get_or-take, length-drop, length-take-le, map_more, take-take, take_all, take_more}
 use Rattle.std.proofs.Math.Seq.{drop-cons, get_or-append_seam}
 use Rattle.std.proofs.lemmas.Option.{slice_get-get_or, slice_get-map}
 use Rattle.std.proofs.lemmas.List.Sums.{fails_before_first, passes_at_first}
@@ -27,12 +27,14 @@ use Rattle.plain_cells.specs.Readable.{IsReadable}
 use Rattle.plain_cells.specs.Own.{IsOwnText}
 use Rattle.plain_cells.proofs.OwnTextLemmas.{dash_own, empty_set_own, empty_list_own}
 use Rattle.plain_cells.proofs.PlaceLemmas.{pieces_stand_between}
-use Rattle.plain_cells.proofs.ReadableLemmas.{text_readable, name_readable, text_set_readable, name_set_readable, text_list_readable, name_list_readable}
-use Rattle.value_text.specs.Writing.{AreUsual}
+use Rattle.std.specs.Str.{bytes_eq}
+use Rattle.plain_cells.proofs.ReadableLemmas.{unset_read, text_readable, name_readable, text_set_readable, name_set_readable, text_list_readable, name_list_readable}
+use Rattle.value_text.specs.Writing.{AreUsual, cell_text}
 use Rattle.zeek_log.specs.declared.fault.At.{At}
 use Rattle.zeek_log.specs.Heads.{Told}
 use Rattle.zeek_log.specs.Lines.{is_newline, is_too_long, pieces_of}
-use Rattle.zeek_log.specs.Plain.{AreInOrder, AreRead, IsPlain, IsWrittenAs, cells_or_none, cut_before, is_of_texts, line_end, row_in, row_under, start_of}
+use Rattle.zeek_log.specs.Plain.{AreInOrder, AreRead, IsOwnPiece, IsPlain, IsWrittenAs, cells_or_none, cut_before, is_of_texts, line_end, row_in, row_under, start_of}
+use Rattle.zeek_log.proofs.LawLemmas.{pieces_joined}
 use Rattle.zeek_log.specs.Table.{Gives, Line, Outcome, cells_read, data_line, data_told, line_outcome, row_read, row_told, then_cell}
 
 -- ---- cells that need no look at their bytes
@@ -45,6 +47,15 @@ texts_readable (kind.SetOf elem.Name) raw text = name_set_readable raw
 texts_readable (kind.VecOf elem.Text) raw text = text_list_readable raw
 texts_readable (kind.VecOf elem.Name) raw text = name_list_readable raw
 texts_readable _ raw text = cc
+
+-- a dash alone
+pub dash_cell : (text : List ℕ) (count : ℕ) → count ≡ 1 → 1 ≤ length text → get_or text 0 0 ≡ 45 → take count text ≡ 45 ∷ []
+dash_cell [] count one some is = absurd (omega arith)
+dash_cell (b ∷ bs) count one some is = ap (λ (n : ℕ). take n (b ∷ bs)) one ∙ ap (λ (x : ℕ). x ∷ []) is
+
+pub dash_read : (marks : Marks) (k : Kind) (raw : List ℕ) → marks.unset ≡ 45 ∷ [] → raw ≡ 45 ∷ [] → IsSome (cell_read marks k raw)
+dash_read marks k raw unset is =
+    unset_read marks k raw (ap (λ (r : List ℕ). bytes_eq r marks.unset) is ∙ ap (λ (u : List ℕ). bytes_eq (45 ∷ []) u) unset)
 
 pub own_dash : (k : Kind) (raw : List ℕ) → raw ≡ codes "-" → IsOwnText k raw
 own_dash k raw is = subst (λ (r : List ℕ). IsOwnText k r) (sym is) (dash_own k)
@@ -331,7 +342,7 @@ module _ (told : Told) (heading : Heading) (text places : List ℕ) (count colum
   abbrev pieces : List (List ℕ)
   pieces = pieces_of told.separator line
 
-  piece : slice_get pieces column ≡ Some (take (cell_end - cell_start) (drop cell_start text))
+  pub piece : slice_get pieces column ≡ Some (take (cell_end - cell_start) (drop cell_start text))
   piece =
       ap (λ (ps : List (List ℕ)). slice_get ps column) plain.pieces
       ∙ piece_at (take count places) 0 line column (omega (arith, length-take-le count places plain.few))
@@ -358,3 +369,44 @@ module _ (told : Told) (heading : Heading) (text places : List ℕ) (count colum
       → cell_read told.marks field.kind (take (cell_end - cell_start) (drop cell_start text)) ≡ slice_get (cells_or_none (row_in told line)) column
   cell_reads field is =
       cell_is told.marks 1 heading.fields pieces (cells_or_none (row_in told line)) column field (take (cell_end - cell_start) (drop cell_start text)) cells is piece
+
+-- a plain line has a piece for each place
+pub plain_pieces : (told : Told) (text places : List ℕ) (count : ℕ) → IsPlain told text places count → length (pieces_of told.separator (take (line_end places count) text)) ≡ count
+plain_pieces told text places count plain =
+    ap length plain.pieces ∙ length-cut_before (take count places) 0 (take (line_end places count) text) ∙ length-take-le count places plain.few
+
+-- ---- a line that is its cells' texts
+
+-- what is how the cell is written is its piece
+pub own_piece : (o : Option Cell) (p : Option (List ℕ)) (marks : Marks) (k : Kind) (raw : List ℕ) → AreUsual marks → IsOwnText k raw → cell_read marks k raw ≡ o
+    → p ≡ Some raw → IsOwnPiece o p
+own_piece o p marks k raw usual own reads is = λ x at. is ∙ ap Some (sym (own marks usual x (reads ∙ at)))
+
+-- one more piece is its cell's text
+pub own_more : (row : List Cell) (pieces : List (List ℕ)) (column : ℕ) → column < length row → column < length pieces
+    → map cell_text (take column row) ≡ take column pieces → IsOwnPiece (slice_get row column) (slice_get pieces column)
+    → map cell_text (take (column + 1) row) ≡ take (column + 1) pieces
+own_more row pieces column in_row in_pieces so_far own =
+    let x = get_or row column cell.Unset in
+    let raw = get_or pieces column [] in
+    let is : Some raw ≡ Some (cell_text x) = sym (slice_get-get_or pieces column [] in_pieces) ∙ own x (slice_get-get_or row column cell.Unset in_row) in
+    let same : raw ≡ cell_text x = cc in
+    map_more cell_text row column cell.Unset in_row
+    ∙ ap (λ (ts : List (List ℕ)). ts ++ cell_text x ∷ []) so_far ∙ ap (λ (t : List ℕ). take column pieces ++ t ∷ []) (sym same)
+    ∙ sym (take_more pieces column [] in_pieces)
+
+-- each piece behind a tab
+tabbed_more : (x : Cell) (row : List Cell) → flat_map (λ y. 9 ∷ cell_text y) (x ∷ row) ≡ 9 ∷ join_with_byte 9 (map cell_text (x ∷ row))
+tabbed_more x [] = ap (λ (t : List ℕ). 9 ∷ t) (append-nil (cell_text x))
+tabbed_more x (y ∷ row) = ap (λ (t : List ℕ). 9 ∷ (cell_text x ++ t)) (tabbed_more y row)
+
+tabbed_row : (row : List Cell) → 0 < length row → flat_map (λ y. 9 ∷ cell_text y) row ≡ 9 ∷ join_with_byte 9 (map cell_text row)
+tabbed_row [] some = absurd (omega arith)
+tabbed_row (x ∷ row) some = tabbed_more x row
+
+-- a line whose pieces are its cells' texts is how its row is written
+pub line_written : (separator : ℕ) (line : List ℕ) (row : List Cell) → separator ≡ 9 → 0 < length row → map cell_text row ≡ pieces_of separator line
+    → 9 ∷ line ≡ flat_map (λ y. 9 ∷ cell_text y) row
+line_written separator line row tab some own =
+    ap (λ (t : List ℕ). 9 ∷ t) (sym (pieces_joined 9 line))
+    ∙ ap (λ (ts : List (List ℕ)). 9 ∷ join_with_byte 9 ts) (ap (λ (s : ℕ). pieces_of s line) (sym tab) ∙ sym own) ∙ sym (tabbed_row row some)

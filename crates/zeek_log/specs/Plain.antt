@@ -73,3 +73,7 @@ is_of_texts (kind.VecOf elem) = is_text elem
 abbrev pub IsWrittenAs : Option Cell → List ℕ → Type 0
 IsWrittenAs None raw = Unit {0}
 IsWrittenAs (Some cell) raw = cell_text cell ≡ raw
+
+-- a piece of a line is how its cell is written, if there is one
+abbrev pub IsOwnPiece : Option Cell → Option (List ℕ) → Type 0
+IsOwnPiece cell piece = (x : Cell) → cell ≡ Some x → piece ≡ Some (cell_text x)

@@ -1,11 +1,12 @@
 //! Bytes of a source until a line stands at their front.
-ghost use Rattle.std.specs.Prelude.{◌≡◌, ◌≤◌, length, max, IfOk};
+ghost use Rattle.std.specs.Prelude.{◌≡◌, ◌≢◌, ◌<◌, ◌≤◌, length, get_or, max, IfOk, IsTrue};
 ghost use Rattle.source_block.specs.Holding.{most_bytes};
 ghost use Rattle.source_block.specs.Taking.{Takes};
-ghost use Rattle.zeek_log.specs.Finding.{Finds, FindCounts, most_kept};
+ghost use Rattle.zeek_log.specs.Finding.{Finds, FindCounts, HoldsRow, most_kept};
 
 use crate::cut::newline_from;
 use crate::line::MOST_LINE;
+use memchr::memchr;
 use source_block::{Block, Stop, Took};
 use std::alloc::AllocError;
 use vast_io::Source;
@@ -43,4 +44,30 @@ pub fn find_line<S: Source>(block: &mut Block, source: &mut S) -> Result<Found, 
             return Ok(Found::Stopped(stop));
         }
     }
+}
+
+/// Whether a whole data line is among the bytes.
+pub fn holds_row(held: &[u8]) -> bool
+    ensures { IsTrue result → HoldsRow held.now }
+{
+    let mut at = 0;
+    while at < held.len() {
+        let (_, rest) = held.split_at(at);
+        let Some(count) = memchr(b'\n', rest) else {
+            return false;
+        };
+        if is_data_line(rest, count) {
+            return true;
+        }
+        at += count + 1;
+    }
+    false
+}
+
+/// Whether the first so many bytes are a line that is neither empty nor a head line.
+fn is_data_line(bytes: &[u8], count: usize) -> bool
+    requires { count < length bytes.now }
+    ensures { IsTrue result → (0 < count) × (get_or bytes.now 0 0 ≢ 35) }
+{
+    count > 0 && bytes[0] != b'#'
 }

@@ -1,5 +1,5 @@
 //! The lines of a log.
-ghost use Rattle.std.specs.Prelude.{◌≡◌, ◌<◌, ◌≤◌, ◌++◌, ◌∷◌, ℕ, List, Option, [], true, None, Some, Ok, length, slice_get, take, is_some, IfOk, IfSome, OnOk, MatchOption};
+ghost use Rattle.std.specs.Prelude.{◌≡◌, ◌<◌, ◌≤◌, ◌++◌, ◌∷◌, ℕ, List, Option, [], true, None, Some, Ok, length, slice_get, take, is_some, IfOk, IfSome, IsTrue, OnOk, MatchOption};
 ghost use Rattle.std.specs.List.{flat_map};
 ghost use Rattle.value_text.specs.Writing.{cell_text};
 ghost use Rattle.zeek_log.specs.Plain.{line_end};
@@ -7,14 +7,14 @@ ghost use Rattle.zeek_log.specs.Standing.{IsPlainAt, behind_line, line_cells, ne
 ghost use Rattle.vast_value.specs.Headings.{heading_of};
 ghost use Rattle.memchr.specs.Find.{IsFirstByte, is_byte};
 ghost use Rattle.source_block.specs.Taking.{Stops, Counts};
-ghost use Rattle.zeek_log.specs.Finding.{most_kept};
+ghost use Rattle.zeek_log.specs.Finding.{HoldsRow, most_kept};
 ghost use Rattle.zeek_log.specs.Going.{LineAnswer, LineCounts, answer_of, is_reading, lines_left};
 ghost use Rattle.zeek_log.specs.Heads.{opening};
 ghost use Rattle.zeek_log.specs.Reader.{Answer, Follows, CountsBy, CountsOf, IsMet, Reads, StepFits, given, heading_told};
 ghost use Rattle.zeek_log.specs.Steps.{step_of};
 
 use crate::fault::{LineEnd, ZeekFault};
-use crate::finding::{Found, find_line};
+use crate::finding::{Found, find_line, holds_row};
 use crate::known::Known;
 use crate::line::take_line;
 use crate::opening::opened;
@@ -124,6 +124,13 @@ impl LineReader {
             Phase::Reads => plain_line(&self.known, self.block.as_slice(), places),
             _ => None,
         }
+    }
+
+    /// Whether a whole data line is among the bytes held.
+    pub fn holds_row(&self) -> bool
+        ensures { IsTrue result → HoldsRow self.now.held }
+    {
+        holds_row(self.block.as_slice())
     }
 
     /// Goes behind the line of so many bytes that is at the front of the bytes held.

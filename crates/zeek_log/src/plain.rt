@@ -1,5 +1,5 @@
 //! Lines that are seen to be rows before any of their cells is read.
-ghost use Rattle.std.specs.Prelude.{◌≡◌, ◌≢◌, ◌+◌, ◌<◌, ◌≤◌, get_or, length, map, take, IfSome, IsSome, IsTrue};
+ghost use Rattle.std.specs.Prelude.{◌≡◌, ◌≢◌, ◌+◌, ◌<◌, ◌≤◌, ◌∷◌, [], get_or, length, map, take, drop, IfSome, IsSome, IsTrue};
 ghost use Rattle.plain_cells.specs.Readable.{IsReadable};
 ghost use Rattle.vast_value.specs.Headings.{field_of};
 ghost use Rattle.value_text.specs.Reading.{cell_read, is_text};
@@ -63,14 +63,14 @@ fn are_plain(marks: &Marks, columns: &[Column], text: &[u8], count: usize, place
     ensures read { IsTrue result → AreRead marks.now (map field_of columns.now) (cut_before (take (length columns.now) places.now) 0 (take count text.now)) }
     ensures order { IsTrue result → AreInOrder 0 count (take (length columns.now) places.now) }
 {
+    let dash = is_dash(marks);
     let mut from = 0;
     for (at, column) in columns.iter().enumerate() {
         let to = places[at] as usize;
         if to < from || to > count {
             return false;
         }
-        let (_, cell) = text.split_at(from);
-        if !is_plain(marks, column.kind, cell, to - from) {
+        if !is_plain(marks, dash, column.kind, text, from, to - from) {
             return false;
         }
         from = to + 1;
@@ -78,13 +78,40 @@ fn are_plain(marks: &Marks, columns: &[Column], text: &[u8], count: usize, place
     true
 }
 
-/// Whether the first bytes are seen to be a cell of the kind.
+/// Whether so many bytes from `from` on are seen to be a cell of the kind. Texts need no look. `dash` says that the unset mark
+/// is known to be the usual one.
 #[inline(always)]
-fn is_plain(marks: &Marks, kind: Kind, text: &[u8], count: usize) -> bool
-    requires { count + 32 ≤ length text.now }
-    ensures { IsTrue result → IsSome (cell_read marks.now kind (take count text.now)) }
+#[tactic(auto, using(crate::proofs::PlainLemmas::texts_readable))]
+fn is_plain(marks: &Marks, dash: bool, kind: Kind, text: &[u8], from: usize, count: usize) -> bool
+    requires dash { IsTrue dash → marks.now.unset ≡ 45 ∷ [] }
+    requires spare { from + count + 32 ≤ length text.now }
+    ensures { IsTrue result → IsSome (cell_read marks.now kind (take count (drop from text.now))) }
 {
-    is_plain_of(kind, text, count) || is_unset(marks, text, count)
+    if is_of_texts(kind) {
+        return true;
+    }
+    let (_, cell) = text.split_at(from);
+    if dash && is_dash_cell(cell, count) {
+        return true;
+    }
+    is_plain_of(kind, cell, count) || is_unset(marks, cell, count)
+}
+
+/// Whether the unset mark is the usual one.
+fn is_dash(marks: &Marks) -> bool
+    ensures { IsTrue result → marks.now.unset ≡ 45 ∷ [] }
+{
+    marks.unset.as_slice() == b"-".as_slice()
+}
+
+/// Whether the first bytes are a dash alone.
+#[inline(always)]
+#[tactic(auto, using(crate::proofs::PlainLemmas::dash_cell))]
+fn is_dash_cell(text: &[u8], count: usize) -> bool
+    requires { count ≤ length text.now }
+    ensures { IsTrue result → take count text.now ≡ 45 ∷ [] }
+{
+    count == 1 && text[0] == b'-'
 }
 
 #[inline(always)]
@@ -98,13 +125,11 @@ fn is_unset(marks: &Marks, text: &[u8], count: usize) -> bool
 }
 
 #[inline(always)]
-#[tactic(auto, using(crate::proofs::PlainLemmas::texts_readable))]
 fn is_plain_of(kind: Kind, text: &[u8], count: usize) -> bool
     requires { count + 32 ≤ length text.now }
     ensures { IsTrue result → IsReadable kind (take count text.now) }
 {
     match kind {
-        _ if is_of_texts(kind) => true,
         Kind::One(elem) => is_plain_one(elem, text, count),
         _ => false,
     }

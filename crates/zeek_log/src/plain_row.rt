@@ -1,5 +1,5 @@
 //! The cells of a line that is seen to be a row.
-ghost use Rattle.std.specs.Prelude.{◌≡◌, ◌≢◌, ◌+◌, ◌-◌, ◌<◌, ◌≤◌, ◌++◌, ◌∷◌, None, codes, length, slice_get, take, IfOk, IfSome, IsTrue, OnOk};
+ghost use Rattle.std.specs.Prelude.{◌≡◌, ◌≢◌, ◌+◌, ◌-◌, ◌<◌, ◌≤◌, ◌++◌, ◌∷◌, None, Some, codes, length, map, slice_get, take, IfOk, IfSome, IsTrue, OnOk};
 ghost use Rattle.std.specs.List.{flat_map};
 ghost use Rattle.vast_value.specs.declared.cell.Cell.{Cell};
 ghost use Rattle.vast_value.specs.declared.kind.Kind.{Kind};
@@ -7,7 +7,8 @@ ghost use Rattle.plain_cells.specs.Own.{IsOwnText};
 ghost use Rattle.value_text.specs.Reading.{cell_read};
 ghost use Rattle.value_text.specs.Writing.{AreUsual, cell_text};
 ghost use Rattle.zeek_log.specs.Answers.{told_of};
-ghost use Rattle.zeek_log.specs.Plain.{IsPlain, IsWrittenAs, cells_or_none, line_end, row_in, start_of};
+ghost use Rattle.zeek_log.specs.Lines.{pieces_of};
+ghost use Rattle.zeek_log.specs.Plain.{IsOwnPiece, IsPlain, IsWrittenAs, cells_or_none, line_end, row_in, start_of};
 
 use crate::known::Known;
 use plain_cells::{is_own_address, is_own_number, is_own_text, is_own_time, is_plain_bool};
@@ -32,6 +33,9 @@ pub fn write_plain(
     ensures { OnOk result (out.new ≡ out.old ++ flat_map (λ x. 9 ∷ cell_text x) (cells_or_none (row_in (told_of known.now) (take (line_end places.now count) held.now)))) }
 {
     if are_usual(&known.marks) {
+        if known.separator == b'\t' && are_own(known, held, places, count) {
+            return write_line(held, places[count - 1] as usize, out);
+        }
         return write_own(alloc, known, held, places, count, out);
     }
     for column in 0..count {
@@ -39,6 +43,43 @@ pub fn write_plain(
         write_behind_tab(&cell, out)?;
     }
     Ok(())
+}
+
+/// Whether each cell of the plain line that is at the front of the bytes held is seen to stand there as it is written.
+fn are_own(known: &Known, held: &[u8], places: &[u32], count: usize) -> bool
+    requires plain { IsPlain (told_of known.now) held.now places.now count }
+    requires usual { AreUsual known.now.marks }
+    ensures { IsTrue result → map cell_text (cells_or_none (row_in (told_of known.now) (take (line_end places.now count) held.now))) ≡ pieces_of known.now.separator (take (line_end places.now count) held.now) }
+{
+    for column in 0..count {
+        if !is_own_at(known, held, places, count, column) {
+            return false;
+        }
+    }
+    true
+}
+
+/// Whether the cell of a column is seen to stand there as it is written.
+#[inline(always)]
+#[tactic(auto, using(crate::proofs::PlainLemmas::own_piece))]
+fn is_own_at(known: &Known, held: &[u8], places: &[u32], count: usize, column: usize) -> bool
+    requires plain { IsPlain (told_of known.now) held.now places.now count }
+    requires within { column < count }
+    requires usual { AreUsual known.now.marks }
+    ensures { IsTrue result → IsOwnPiece (slice_get (cells_or_none (row_in (told_of known.now) (take (line_end places.now count) held.now))) column) (slice_get (pieces_of known.now.separator (take (line_end places.now count) held.now)) column) }
+{
+    let cell = raw_cell(known, held, places, count, column);
+    cell.text.len() >= cell.count + SPARE && is_own(cell.kind, cell.text, cell.count)
+}
+
+/// Puts a tab and the first so many bytes behind what `out` holds.
+fn write_line(held: &[u8], count: usize, out: &mut Bytes) -> Result<(), AllocError>
+    requires { count ≤ length held.now }
+    ensures { OnOk result (out.new ≡ out.old ++ 9 ∷ take count held.now) }
+{
+    let (line, _) = held.split_at(count);
+    out.push(b'\t')?;
+    out.append(line)
 }
 
 /// The same where the log has the usual marks: a cell's bytes as they stand, where that is how it is written.
@@ -113,6 +154,7 @@ fn raw_cell<'a>(
     requires within { column < count }
     ensures within { result.count ≤ length result.text.now }
     ensures reads { cell_read known.now.marks result.kind (take result.count result.text.now) ≡ slice_get (cells_or_none (row_in (told_of known.now) (take (line_end places.now count) held.now))) column }
+    ensures piece { slice_get (pieces_of known.now.separator (take (line_end places.now count) held.now)) column ≡ Some (take result.count result.text.now) }
     ensures there { slice_get (cells_or_none (row_in (told_of known.now) (take (line_end places.now count) held.now))) column ≢ None }
 {
     let Some(layout) = &known.layout else {

@@ -1,9 +1,9 @@
 //! A reader that stands at a line.
-ghost use Rattle.std.specs.Prelude.{◌≡◌, ◌<◌, ◌≤◌, ◌++◌, ◌∷◌, [], None, Some, length, is_some, IfOk, OnOk, MatchOption};
+ghost use Rattle.std.specs.Prelude.{◌≡◌, ℕ, ◌<◌, ◌≤◌, ◌++◌, ◌∷◌, List, [], Option, None, Some, Ok, false, length, is_some, IfOk, OnOk, IsTrue, MatchOption};
 ghost use Rattle.std.specs.List.{flat_map};
 ghost use Rattle.value_text.specs.Writing.{cell_text};
 ghost use Rattle.vast_value.specs.Headings.{heading_of};
-ghost use Rattle.zeek_log.specs.Finding.{most_kept};
+ghost use Rattle.zeek_log.specs.Finding.{HoldsRow, most_kept};
 ghost use Rattle.zeek_log.specs.Going.{lines_left};
 ghost use Rattle.zeek_log.specs.Heads.{opening};
 ghost use Rattle.zeek_log.specs.Reader.{CountsOf, Follows, Reads, StepFits, StepHas, given, heading_told, moved_to, step_at};
@@ -99,17 +99,61 @@ impl ZeekReader {
         ensures less { OnOk result (lines_left self.new.at.state < lines_left self.old.at.state) }
         ensures kept { self.new.at.kept ≤ most_kept }
     {
-        pass_current(&mut self.lines, &mut self.current, &self.places);
-        if let Some(count) = self.lines.plain_line(&mut self.places) {
-            self.current = Current::Plain(count);
+        if self.advance_in_place() {
             return Ok(Moved::Line);
         }
+        self.advance_by_reading(alloc, source)
+    }
+
+    /// Goes on to the next line, where it stands whole among the bytes held and is seen there to be a row. Nothing is read.
+    /// `false` says nothing of the line, and leaves how far the reader is.
+    pub fn advance_in_place(&mut self) -> bool
+        ensures next { IsTrue result → (left : Option (List ℕ)) → Follows self.old.at.state self.old.at self.new.at left left (Ok (step_at self.new Moved.Line)) }
+        ensures has { IsTrue result → StepHas (heading_told self.old.at.state) (heading_told self.new.at.state) (step_at self.new Moved.Line) }
+        ensures less { IsTrue result → lines_left self.new.at.state < lines_left self.old.at.state }
+        ensures kept { IsTrue result → self.new.at.kept ≤ most_kept }
+        ensures stays { result ≡ false → self.new ≡ record { at = self.old.at; row = [] } }
+    {
+        pass_current(&mut self.lines, &mut self.current, &self.places);
+        match self.lines.plain_line(&mut self.places) {
+            Some(count) => {
+                self.current = Current::Plain(count);
+                true
+            }
+            None => false,
+        }
+    }
+
+    /// Goes on as [`advance`](ZeekReader::advance), and reads each line by the way that knows every spelling.
+    pub fn advance_by_reading<S: Source>(
+        &mut self,
+        alloc: Global,
+        source: &mut S,
+    ) -> Result<Moved, ZeekEnd>
+        ensures next { Follows self.old.at.state self.old.at self.new.at (S.left source.old) (S.left source.new) (moved_to self.new result) }
+        ensures counts { CountsOf self.old.at.state (moved_to self.new result) (S.faults source.old) (S.faults source.new) }
+        ensures has { IfOk result (λ moved. StepHas (heading_told self.old.at.state) (heading_told self.new.at.state) (step_at self.new moved)) }
+        ensures tells { is_some (S.left source.new) ≡ is_some (S.left source.old) }
+        ensures less { OnOk result (lines_left self.new.at.state < lines_left self.old.at.state) }
+        ensures kept { self.new.at.kept ≤ most_kept }
+    {
+        pass_current(&mut self.lines, &mut self.current, &self.places);
         match self.lines.next(alloc, source)? {
             Step::Head(_) => Ok(Moved::Head),
             Step::Line(row) => {
                 self.current = Current::Made(row);
                 Ok(Moved::Line)
             }
+        }
+    }
+
+    /// Whether a whole data line is among the bytes held. The next step is then found without reading more of the source.
+    pub fn holds_row(&self) -> bool
+        ensures { IsTrue result → HoldsRow self.now.at.held }
+    {
+        match &self.current {
+            Current::Plain(_) => false,
+            _ => self.lines.holds_row(),
         }
     }
 

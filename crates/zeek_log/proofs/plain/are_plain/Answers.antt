@@ -1,5 +1,4 @@
-use Rattle.std.proofs.Common.{ℕ, List, get_or, take, ◌-◌, refl, subst, arith, IsSome}
-use Rattle.value_text.specs.Reading.{cell_read}
+use Rattle.std.proofs.Common.{get_or, refl, arith}
 use Rattle.zeek_log.proofs.PieceLemmas.{item_left}
 use Rattle.zeek_log.proofs.PlainLemmas.{in_order, read_on}
 use Rattle.zeek_log.proofs.plain.are_plain.Goals as goal
@@ -23,5 +22,5 @@ loop-at-preserved c =
           c.loop-at.invariant.read
           (read_on marks columns column places text at from to c.args.count c.loop-at-test.true c.requires.places
           (item_left columns at column c.loop-at-test.true c.index-columns-at.is) refl c.if-to-from.false c.if-to-count.false
-          (subst (λ (r : List ℕ). IsSome (cell_read marks column.kind (take (to - from) r))) c.split_at.ensures.back (c.if-not-is_plain.ensures refl)) rest);
+          (c.if-not-is_plain.ensures refl) rest);
     }

@@ -5,7 +5,7 @@ use Rattle.vast_value.specs.declared.column.Column.{Column}
 use Rattle.vast_value.specs.Headings.{field_of, heading_of}
 use Rattle.value_text.specs.Reading.{cell_read}
 use Rattle.zeek_log.specs.Answers.{told_of}
-use Rattle.zeek_log.proofs.PlainLemmas.{cell_low, cell_high, cell_reads, cell_there, field_at, has_column}
+use Rattle.zeek_log.proofs.PlainLemmas.{cell_low, cell_high, cell_reads, cell_there, field_at, has_column, piece}
 use Rattle.zeek_log.proofs.plain_row.raw_cell.Goals as goal
 
 pub split_at-requires : goal.split_at-requires
@@ -46,3 +46,16 @@ returns-clause-reads c =
     ∙ ap (λ (k : ℕ). take (get_or places column 0 - k) (drop k held)) c.start_of-from.ensures in
     ap (cell_read c.args.known.now.marks at.kind) raw
     ∙ cell_reads told heading held places c.args.count column stands c.requires.plain c.requires.within (field_of at) field
+
+pub returns-clause-piece : goal.returns-clause-piece
+returns-clause-piece c =
+    let told = told_of c.args.known.now in
+    let heading = heading_of c.in-Some.layout in
+    let held = c.args.held.now in
+    let places = c.args.places.now in
+    let column = c.args.column in
+    let stands = ap (option_map heading_of) c.in-Some.is in
+    let raw =
+    ap (take (get_or places column 0 - c.start_of-from.result)) c.split_at.ensures.back
+    ∙ ap (λ (k : ℕ). take (get_or places column 0 - k) (drop k held)) c.start_of-from.ensures in
+    piece told heading held places c.args.count column stands c.requires.plain c.requires.within ∙ ap Some (sym raw)
