@@ -1,6 +1,7 @@
 pub mod BitwiseLemmas
 pub mod NumberLemmas
 pub mod RefusalLemmas
+pub mod SameLemmas
 pub mod AnswerLemmas
 pub mod WordBits
 pub mod PackLemmas

@@ -84,10 +84,12 @@ fn asked(blocks: &Blocks, block: usize, all: bool) -> u64
 }
 
 /// Splits the bits of `among` by the number that `count` lines of a block from `first` on spell, from the highest down.
-/// Nothing more is read once no number is equal to the key's first bits.
+/// Lines that have the key's bit at all of these rows are passed over, and nothing more is read once no number is equal
+/// to the key's first bits.
 fn split(blocks: &Blocks, block: usize, first: usize, count: usize, key: u64, among: u64) -> Halves
     requires few { count ≤ 64 }
     requires block { block < length blocks.now.blocks }
+    requires some { 0 < first }
     requires inside { first + count ≤ blocks.now.width + 1 }
     requires narrow { first ≤ 2 ^ 40 }
     ensures below { (i : ℕ) → i < 64 → has_bit result.below i ≡ (has_bit among i && nat_lt (number_in (get_or blocks.now.blocks block []) first count i) key) }
@@ -96,9 +98,13 @@ fn split(blocks: &Blocks, block: usize, first: usize, count: usize, key: u64, am
     let mut halves = Halves::begin(count, key, among);
     let mut j = 0;
     while j < count && halves.equal != 0 {
-        let bit = has_bit(key, count - 1 - j);
-        halves = halves.narrow(blocks.word(block, first + j), bit);
-        j += 1;
+        let same = blocks.same(block, first + j, key << (64 - (count - j)), among);
+        j = count.min(j + same);
+        if j < count {
+            let bit = has_bit(key, count - 1 - j);
+            halves = halves.narrow(blocks.word(block, first + j), bit);
+            j += 1;
+        }
     }
     halves
 }
@@ -118,6 +124,7 @@ impl Question {
     fn block(&self, blocks: &Blocks, block: usize, all: bool) -> u64
         requires few { self.now.count ≤ 64 }
         requires block { block < length blocks.now.blocks }
+        requires some { 0 < self.now.first }
         requires inside { self.now.first + self.now.count ≤ blocks.now.width + 1 }
         requires narrow { self.now.first ≤ 2 ^ 40 }
         ensures { (i : ℕ) → i < 64 → has_bit result i ≡ ((all || has_bit (get_or (get_or blocks.now.blocks block []) 0 0) i) && holds self.now.rel (number_in (get_or blocks.now.blocks block []) self.now.first self.now.count i) self.now.key) }
@@ -133,6 +140,7 @@ impl Question {
         requires block { block ≤ length blocks.now.blocks }
         requires one { length last.now.blocks ≡ 1 }
         requires width { last.now.width ≡ blocks.now.width }
+        requires some { 0 < self.now.first }
         requires inside { self.now.first + self.now.count ≤ blocks.now.width + 1 }
         requires narrow { self.now.first ≤ 2 ^ 40 }
         ensures { (i : ℕ) → i < 64 → has_bit result i ≡ ((all || has_bit (get_or (block_in blocks.now last.now block) 0 0) i) && holds self.now.rel (number_in (block_in blocks.now last.now block) self.now.first self.now.count i) self.now.key) }
@@ -160,6 +168,7 @@ pub(crate) fn answer<B: Bits>(
     requires one { length last.now.blocks ≡ 1 }
     requires width { last.now.width ≡ blocks.now.width }
     requires few { question.count ≤ 64 }
+    requires some { 0 < question.first }
     requires within { question.first + question.count ≤ blocks.now.width + 1 }
     requires narrow { question.first ≤ 2 ^ 40 }
     ensures { IfOk result (λ b. IsAnswer (B.bits b) (asked_rows (bit_in blocks.now last.now) rows all) (λ row. holds question.rel (number_in (block_in blocks.now last.now (row / 64)) question.first question.count (row % 64)) question.key)) }

@@ -1,6 +1,7 @@
 ghost use Rattle.std.specs.Prelude.{◌≡◌, ℕ, ◌+◌, ◌-◌, ◌*◌, ◌/◌, ◌%◌, ◌^◌, ◌<◌, ◌≤◌, ◌&&◌, Bool, true, false, List, length, get_or, map, count_ones, OnOk, IfOk, nat_eq};
 ghost use Rattle.std.specs.Simd.Lanes.{mask_l};
 ghost use Rattle.bits_law.specs.Numbers.{has_bit};
+ghost use Rattle.bits_law.specs.declared.head.Head.{Head};
 ghost use Rattle.bits_law.specs.Packed.{column_word, IsInside, IsHead, IsPlane, AreFilled, Begins};
 
 use crate::slices::has_bit;
@@ -32,6 +33,20 @@ impl Head {
         } else {
             0
         }
+    }
+}
+
+/// The columns at which a row of `among` may not have the bit of `key`, of a head with these literal and full columns. In
+/// the others each row has it, which is seen without a word.
+pub(crate) fn apart(literal: u64, full: u64, present: u64, among: u64, key: u64) -> u64
+    ensures { (words : List ℕ) (head : Head) (c i : ℕ) → head.literal ≡ literal → head.full ≡ full → c < 64 → i < 64 → has_bit result c ≡ false → has_bit among i ≡ true → has_bit (column_word present words head c) i ≡ has_bit key c }
+{
+    let other = (full & !key) | (key & !full);
+    let apart = literal | other;
+    if among & !present == 0 {
+        apart
+    } else {
+        apart | full
     }
 }
 

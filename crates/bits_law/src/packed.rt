@@ -3,7 +3,7 @@ ghost use Rattle.bits_law.specs.Numbers.{has_bit};
 ghost use Rattle.bits_law.specs.Blocks.{Lines, parts, word_at, waiting};
 ghost use Rattle.bits_law.specs.Packed.{moved, no_head, line_word, IsInside, Begins, AreHeads, AreAdded, IsStored, AreBehind};
 
-use crate::head::{Head, pack};
+use crate::head::{Head, apart, pack};
 use std::alloc::{AllocError, Global};
 use std::marker::Model;
 
@@ -87,6 +87,39 @@ fn line_word(
     }
     let column = line - 1;
     heads[block * n + column / 64].column(present[block], words, 63 - column % 64)
+}
+
+/// How many lines of a block from `line` on have the bits of a key at each row of `among`, the first line the key's highest,
+/// as far as it is seen without their words.
+fn same_lines(
+    present: &[u64],
+    heads: &[Head],
+    n: usize,
+    block: usize,
+    line: usize,
+    key: u64,
+    among: u64,
+) -> usize
+    requires block { block < length present.now }
+    requires narrow { n ≤ 2 ^ 32 }
+    requires some { 0 < line }
+    requires line { line ≤ 64 * n }
+    requires long { length heads.now ≡ length present.now * n }
+    ensures few { result ≤ 64 }
+    ensures same { (words : List ℕ) (k i : ℕ) → k < result → i < 64 → has_bit among i ≡ true → has_bit (line_word n present.now heads.now words block (line + k)) i ≡ has_bit key (63 - k) }
+{
+    let column = line - 1;
+    let shift = column % 64;
+    let head = heads[block * n + column / 64];
+    let apart = apart(
+        head.literal,
+        head.full,
+        present[block],
+        among,
+        key >> shift,
+    );
+    let zeros = (apart << shift).leading_zeros() as usize;
+    zeros.min(64 - shift)
 }
 
 /// Adds heads whose words stand `from` words further on.
@@ -177,6 +210,26 @@ impl Blocks {
             self.parts(),
             block,
             line,
+        )
+    }
+
+    /// How many lines of a block from `line` on have the bits of a key at each row of `among`, the first line the key's
+    /// highest, as far as it is seen without their words.
+    pub(crate) fn same(&self, block: usize, line: usize, key: u64, among: u64) -> usize
+        requires block { block < length self.now.blocks }
+        requires some { 0 < line }
+        requires line { line ≤ self.now.width }
+        ensures few { result ≤ 64 }
+        ensures same { (k i : ℕ) → k < result → line + k ≤ self.now.width → i < 64 → has_bit among i ≡ true → has_bit (word_at self.now block (line + k)) i ≡ has_bit key (63 - k) }
+    {
+        same_lines(
+            &self.present,
+            &self.heads,
+            self.parts(),
+            block,
+            line,
+            key,
+            among,
         )
     }
 

@@ -1,15 +1,25 @@
 use Rattle.std.proofs.Common.{◌≡◌, [], get_or, refl, arith}
 use Rattle.bits_law.proofs.AskLemmas.{halves_more, halves_all, halves_settled}
+use Rattle.bits_law.proofs.SameLemmas.{passed_over}
 use Rattle.bits_law.proofs.answers.split.Goals as goal
 
 pub loop-j-preserved : goal.loop-j-preserved
-loop-j-preserved c =
+loop-j-preserved c = record {
+  within = omega (arith, c.min-j.ensures);
+  halves = passed_over c.args.blocks.now c.args.block c.args.first c.args.count c.args.key c.args.among c.loop-j.halves.below c.loop-j.halves.equal c.loop-j.j c.same-same.result c.min-j.result
+      c.ranges.key.fits c.requires.few c.requires.inside c.loop-j-test.true c.min-j.ensures c.same-same.ensures.same c.loop-j.invariant.halves;
+}
+
+pub loop-j-preserved-then-j-count : goal.loop-j-preserved-then-j-count
+loop-j-preserved-then-j-count c =
     let a = c.args in
     let h = c.loop-j.halves in
     let next = c.narrow-halves.result in
+    let to = c.min-j.result in
     record {
-      within = omega arith;
-      halves = halves_more (get_or a.blocks.now.blocks a.block []) a.first a.count a.key a.among h.below h.equal next.below next.equal _ c.loop-j.j c.has_bit-bit.result c.loop-j-test.true c.has_bit-bit.ensures c.word.ensures c.narrow-halves.ensures.below c.narrow-halves.ensures.equal c.loop-j.invariant.halves;
+      within = omega (arith, c.if-j-count.true);
+      halves = halves_more (get_or a.blocks.now.blocks a.block []) a.first a.count a.key a.among h.below h.equal next.below next.equal _ to c.has_bit-bit.result c.if-j-count.true c.has_bit-bit.ensures c.word.ensures c.narrow-halves.ensures.below c.narrow-halves.ensures.equal
+          (passed_over a.blocks.now a.block a.first a.count a.key a.among h.below h.equal c.loop-j.j c.same-same.result to c.ranges.key.fits c.requires.few c.requires.inside c.loop-j-test.true c.min-j.ensures c.same-same.ensures.same c.loop-j.invariant.halves);
     }
 
 pub returns-else-halves-ne0-clause-below : goal.returns-else-halves-ne0-clause-below
