@@ -78,22 +78,22 @@ fn shared_bits(keys: &[u64], n: usize, part: usize, taken: u64) -> Shared
     Shared { any, each }
 }
 
-/// Makes `plane` that of byte `at` / 8 of the keys' words, as it is already unless `at` is the byte's highest bit.
-fn turn(plane: &mut [u8], keys: &[u64], n: usize, part: usize, at: usize)
+/// Makes `plane` that of a byte of the keys' words, the lowest being byte 0. It is that of byte `made` already.
+fn turn(plane: &mut [u8], keys: &[u64], n: usize, part: usize, byte: usize, made: usize)
     requires size { length plane.old ≡ 64 }
     requires long { length keys.now ≡ 64 * n }
     requires narrow { n ≤ 2 ^ 32 }
     requires part { part < n }
-    requires at { at < 64 }
-    requires before { at % 8 < 7 → IsPlane plane.old keys.now n part (at / 8) 64 }
+    requires byte { byte < 8 }
+    requires before { made < 8 → IsPlane plane.old keys.now n part made 64 }
     ensures size { length plane.new ≡ 64 }
-    ensures plane { IsPlane plane.new keys.now n part (at / 8) 64 }
+    ensures plane { IsPlane plane.new keys.now n part byte 64 }
 {
-    if at % 8 < 7 {
+    if byte == made {
         return;
     }
     for i in 0..64 {
-        plane[i] = ((keys[i * n + part] >> (8 * (at / 8))) % 256) as u8;
+        plane[i] = ((keys[i * n + part] >> (8 * byte)) % 256) as u8;
     }
 }
 
@@ -127,11 +127,13 @@ fn fill(
         return Ok(());
     }
     let mut plane = [0; 64];
+    let mut made = 8;
     let mut at = 64;
     while at > 0 {
         at -= 1;
-        turn(&mut plane, keys, n, part, at);
         if has_bit(literal, at) {
+            turn(&mut plane, keys, n, part, at / 8, made);
+            made = at / 8;
             words.push(marks(&plane, at % 8) & taken)?;
         }
     }

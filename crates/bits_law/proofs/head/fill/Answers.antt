@@ -34,8 +34,8 @@ loop-at-preserved c =
     let down : at ≡ at - 1 + 1 = omega (arith, c.loop-at-test.true) in
     record {
       within = omega (arith, c.loop-at.invariant.within);
-      size = c.turn.ensures.size;
-      plane = λ l. c.turn.ensures.plane;
+      size = c.loop-at.invariant.size;
+      plane = c.loop-at.invariant.plane;
       filled = filled_skip a.words.now.items c.loop-at.words.items a.literal at (at - 1) (λ c i. has_bit a.taken i && has_bit (get_or a.keys.now (i * a.n + a.part) 0) c) down (sym c.has_bit.ensures ∙ c.if-has_bit.false) c.loop-at.invariant.filled;
     }
 

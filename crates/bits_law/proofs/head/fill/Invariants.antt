@@ -1,4 +1,4 @@
-use Rattle.std.proofs.Common.{◌≡◌, ◌+◌, ◌*◌, ◌/◌, ◌<◌, ◌≤◌, ◌&&◌, length, get_or}
+use Rattle.std.proofs.Common.{◌≡◌, ◌+◌, ◌*◌, ◌<◌, ◌≤◌, ◌&&◌, length, get_or}
 use Rattle.bits_law.specs.Numbers.{has_bit}
 use Rattle.bits_law.specs.Packed.{IsPlane, AreFilled}
 use Rattle.bits_law.proofs.head.fill.Given as goal
@@ -8,7 +8,7 @@ abbrev pub invariant-loop-at : goal.invariant-loop-at
 invariant-loop-at l = record {
   within : l.at ≤ 64;
   size : length l.plane ≡ 64;
-  plane : l.at < 64 → IsPlane l.plane l.keys l.n l.part (l.at / 8) 64;
+  plane : l.made < 8 → IsPlane l.plane l.keys l.n l.part l.made 64;
   filled : AreFilled l.initial.words.items l.words.items l.literal l.at (λ c i. has_bit l.taken i && has_bit (get_or l.keys (i * l.n + l.part) 0) c);
 }
 
