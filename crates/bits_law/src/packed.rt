@@ -111,13 +111,7 @@ fn same_lines(
     let column = line - 1;
     let shift = column % 64;
     let head = heads[block * n + column / 64];
-    let apart = apart(
-        head.literal,
-        head.full,
-        present[block],
-        among,
-        key >> shift,
-    );
+    let apart = apart(head.literal, head.full, present[block], among, key >> shift);
     let zeros = (apart << shift).leading_zeros() as usize;
     zeros.min(64 - shift)
 }

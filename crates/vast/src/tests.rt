@@ -239,12 +239,11 @@ fn left_at_the_first_match(alloc: Global, bytes: &[u8], piece: u32) -> Result<Ve
     let mut left = Vec::new(alloc);
     if let Some(source) = ended.rest {
         let mut source = source;
-        let mut into = [0; 100];
-        while let Ok(count) = source.read(&mut into) {
-            if count == 0 {
-                break;
+        for _ in 0..bytes.len() {
+            let mut into = [0; 100];
+            if let Ok(count) = source.read(&mut into) {
+                left.extend_from_slice(&into[..count])?;
             }
-            left.extend_from_slice(&into[..count])?;
         }
     }
     Ok(left)
