@@ -2,6 +2,7 @@
 use Rattle.std.proofs.Common.{◌≡◌, ℕ, suc, ◌+◌, ◌-◌, ◌*◌, ◌/◌, ◌%◌, ◌^◌, ◌<◌, ◌≤◌, Bool, true, false, eqb, leb, ◌&&◌, List, [], length, get_or, take, drop, Option, Result, Ok, Err, IfOk, refl, ap, sym, ◌∙◌, inl, inr, arith}
 use Rattle.std.proofs.Math.Nat.{div-one, mod-eq_of_lt, pow-le-pow_right}
 use Rattle.std.proofs.lemmas.Bool.{cases_lt}
+use Rattle.std.proofs.lemmas.List.{get_or-take, get_or_past, length-take}
 use Rattle.std.proofs.lemmas.Nat.{pow-add}
 use Rattle.std.proofs.lemmas.Nat.Bits.{bit_at_cat_low, bit_at_cat_high}
 use Rattle.bits_law.specs.Keys.{answers}
@@ -33,6 +34,20 @@ pub byte_bits : (keys : List (Option (List ℕ))) (table : Contents) (at j : ℕ
 byte_bits keys table at j w u h =
     let place : 8 + 8 * at + j ≡ 8 * suc at + j = omega arith in
     ap (λ i. get_or table.columns i []) place ∙ unit_bits keys table (suc at) j (omega arith) u h
+    ∙ answers-same (λ key. eqb (get_or (take 8 key) at 0 / 2 ^ (0 + (8 - 1 - j)) % 2) 1) (λ key. eqb (get_or key at 0 / 2 ^ (0 + (8 - 1 - j)) % 2) 1) keys (λ row key l e.
+    ap (λ n. eqb (n / 2 ^ (0 + (8 - 1 - j)) % 2) 1) (get_or-take 8 key at 0 w))
+
+-- a byte among the first eight, and past them
+pub near_byte : (text : List ℕ) (unit at : ℕ) → unit ≡ at + 1 → at < 8 → get_or text at 0 ≡ text_unit unit text
+near_byte text unit at is l = sym (get_or-take 8 text at 0 l) ∙ ap (λ n. text_unit n text) (one_more at ∙ sym is)
+  where
+    one_more : (n : ℕ) → suc n ≡ n + 1
+    one_more n = omega arith
+
+pub far_byte : (text : List ℕ) (unit : ℕ) → 8 < unit → 0 ≡ text_unit unit text
+far_byte text unit l =
+    let at : suc (unit - 1) ≡ unit = omega (arith, l) in
+    sym (get_or_past (take 8 text) (unit - 1) 0 (omega (arith, l, length-take 8 text))) ∙ ap (λ n. text_unit n text) at
 
 -- eight units in a word, the first one highest
 pub unit_more_small : (word unit k : ℕ) → word < 2 ^ (8 * k) → unit < 256 → k < 8 → (word * 256 + unit < 2 ^ (8 * (k + 1))) × (word * 256 + unit < 2 ^ 64)

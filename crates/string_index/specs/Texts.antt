@@ -1,5 +1,5 @@
 -- What a string index keeps of a text.
-use Rattle.std.specs.Prelude.{ℕ, zero, suc, ◌-◌, ◌/◌, ◌%◌, ◌<◌, min, Bool, true, ◌&&◌, List, length, Option, nat_eq, slice_index}
+use Rattle.std.specs.Prelude.{ℕ, zero, suc, ◌-◌, ◌/◌, ◌%◌, ◌<◌, min, Bool, true, ◌&&◌, List, length, take, Option, nat_eq, slice_index}
 use Rattle.bits_law.specs.Numbers.{has_bit}
 use Rattle.bits_law.specs.Contents.{Contents, HoldsKeys}
 
@@ -7,10 +7,11 @@ use Rattle.bits_law.specs.Contents.{Contents, HoldsKeys}
 abbrev pub short_length : List ℕ → ℕ
 short_length text = min (length text) 255
 
--- what the columns are read from, eight at a time: the length first, then the bytes; a byte past the end is 0
+-- what the columns are read from, eight at a time: the length first, then the first eight bytes; a byte past these or past
+-- the end is 0
 abbrev pub text_unit : ℕ → List ℕ → ℕ
 text_unit zero text = short_length text
-text_unit (suc at) text = slice_index text at
+text_unit (suc at) text = slice_index (take 8 text) at
 
 -- column j: a bit of unit j / 8, the highest first
 abbrev pub text_bit : ℕ → List ℕ → Bool

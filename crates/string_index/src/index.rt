@@ -29,14 +29,14 @@ impl<'a> RowBits for TextKey<'a> {
     }
 }
 
-/// What eight columns are read from: the text's length first, then its bytes.
+/// What eight columns are read from: the text's length first, then its first eight bytes.
 fn unit(text: &[u8], at: usize) -> u8
     ensures { result ≡ text_unit at text.now }
 {
-    if at == 0 {
-        short_length(text)
-    } else {
-        byte(text, at - 1)
+    match at {
+        0 => short_length(text),
+        1..=8 => byte(text, at - 1),
+        _ => 0,
     }
 }
 
