@@ -1,0 +1,4 @@
+pub mod AnswerLemmas
+pub mod GrowthLemmas
+pub mod SnapshotLemmas
+pub mod TellingLemmas

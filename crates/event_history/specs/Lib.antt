@@ -1,0 +1,9 @@
+pub mod Choices
+pub mod Delivered
+pub mod Events
+pub mod Histories
+pub mod Laws
+pub mod Legal
+pub mod Pieces
+pub mod Queries
+pub mod Steps
