@@ -23,7 +23,7 @@ use Rattle.event_history.specs.Queries.{Registration, live_end, past_begin, posi
 use Rattle.event_history.proofs.AnswerLemmas.{chosen_above, chosen_below, chosen_join, chosen_more, chosen_none, chosen_not_above, chosen_not_below, lt_of}
 
 -- What holds of a registered query: its number, where its parts and positions stand, and what it was told.
-record Standing (q n count : ℕ) (all : List Event) (at : ℕ × ℕ) (told : List (ℕ × Event)) (g : Registration) : Type 0 where
+pub record Standing (q n count : ℕ) (all : List Event) (at : ℕ × ℕ) (told : List (ℕ × Event)) (g : Registration) : Type 0 where
   pub numbered : q ≤ count
   pub begins : past_begin g.mode g.from ≤ at.0
   pub within : at.0 ≤ g.from
@@ -34,7 +34,7 @@ record Standing (q n count : ℕ) (all : List Event) (at : ℕ × ℕ) (told : L
   pub live : filter (λ (x : ℕ × Event). not (is_below g.from x)) told ≡ answer g.expr all g.from at.1
 
 -- a query that isn't registered was told nothing
-abbrev StandsAt : ℕ → ℕ → ℕ → List Event → ℕ × ℕ → List (ℕ × Event) → Option Registration → Type 0
+abbrev pub StandsAt : ℕ → ℕ → ℕ → List Event → ℕ × ℕ → List (ℕ × Event) → Option Registration → Type 0
 StandsAt q n count all at told None = told ≡ []
 StandsAt q n count all at told (Some g) = Standing q n count all at told g
 
@@ -44,7 +44,7 @@ live_end_more Coming from n k = omega arith
 live_end_more Both from n k = omega arith
 live_end_more (Since id) from n k = omega arith
 
-live_end_within : (mode : Mode) (from n : ℕ) → from ≤ n → live_end mode from n ≤ n
+pub live_end_within : (mode : Mode) (from n : ℕ) → from ≤ n → live_end mode from n ≤ n
 live_end_within Past from n h = h
 live_end_within Coming from n h = omega arith
 live_end_within Both from n h = omega arith
@@ -287,17 +287,19 @@ stands : (limits : Limits) (before : List Entry) (q : ℕ) → Legal limits befo
 stands limits [] q legal = refl
 stands limits (e ∷ before) q legal = deed_kept q before e.deed limits legal.1 (stands limits before q legal.0)
 
+pub standing_of : (limits : Limits) (before : List Entry) (q : ℕ) (g : Registration) → Legal limits before → registration q before ≡ Some g
+    → Standing q (event_count before) (query_count before) (events before) (position q before) (delivered q before) g
+standing_of limits before q g legal is =
+    subst (λ (o : Option Registration). StandsAt q (event_count before) (query_count before) (events before) (position q before) (delivered q before) o) is
+    (stands limits before q legal)
+
 pub exactly : (limits : Limits) (before : List Entry) (q : ℕ) → DeliversExactly limits before q
 exactly limits before q legal g is =
-    let standing : Standing q (event_count before) (query_count before) (events before) (position q before) (delivered q before) g =
-      subst (λ (o : Option Registration). StandsAt q (event_count before) (query_count before) (events before) (position q before) (delivered q before) o) is
-      (stands limits before q legal) in
-    record { past = standing.past; live = standing.live }
+    let s : Standing q (event_count before) (query_count before) (events before) (position q before) (delivered q before) g = standing_of limits before q g legal is in
+    record { past = s.past; live = s.live }
 
 pub registered_within : (limits : Limits) (before : List Entry) (q : ℕ) (g : Registration) → Legal limits before → registration q before ≡ Some g
     → q ≤ query_count before
 registered_within limits before q g legal is =
-    let standing : Standing q (event_count before) (query_count before) (events before) (position q before) (delivered q before) g =
-      subst (λ (o : Option Registration). StandsAt q (event_count before) (query_count before) (events before) (position q before) (delivered q before) o) is
-      (stands limits before q legal) in
-    standing.numbered
+    let s : Standing q (event_count before) (query_count before) (events before) (position q before) (delivered q before) g = standing_of limits before q g legal is in
+    s.numbered

@@ -1,11 +1,11 @@
 -- Laws of histories.
-use Rattle.std.specs.Prelude.{◌≡◌, ℕ, ◌≤◌, Bool, true, not, List, ◌++◌, Option, Some, filter, flat_map, take}
+use Rattle.std.specs.Prelude.{◌≡◌, ℕ, ◌≤◌, ◌==◌, Bool, true, not, ◌&&◌, ◌||◌, if◌then◌else◌, List, [], ◌∷◌, ◌++◌, Option, None, Some, filter, flat_map, take, slice_get, nat_le, nat_lt}
 use Rattle.query_meaning.specs.declared.expr.Expr.{Expr}
 use Rattle.event_batch.specs.Contents.{Spelled}
 use Rattle.event_history.specs.declared.entry.Entry.{Entry}
 use Rattle.event_history.specs.declared.entry.Limits.{Limits}
 use Rattle.event_history.specs.Delivered.{delivered, is_below}
-use Rattle.event_history.specs.Events.{answer, matches}
+use Rattle.event_history.specs.Events.{Event, answer, matches}
 use Rattle.event_history.specs.Histories.{accepted, batch_count, event_count, events, first_of, is_full, is_indexed, is_sealed}
 use Rattle.event_history.specs.Legal.{Legal}
 use Rattle.event_history.specs.Pieces.{batch_answer, held_of}
@@ -20,6 +20,21 @@ pub record IsTold (q : ℕ) (before : List Entry) (g : Registration) : Type 0 wh
 
 abbrev pub DeliversExactly : Limits → List Entry → ℕ → Type 0
 DeliversExactly limits before q = Legal limits before → (g : Registration) → registration q before ≡ Some g → IsTold q before g
+
+-- the id lies in the past part below the past position, or in the live part below the live position
+abbrev pub is_due : Registration → ℕ × ℕ → ℕ → Bool
+is_due g at id = (nat_le (past_begin g.mode g.from) id && nat_lt id at.0) || (nat_le g.from id && nat_lt id at.1)
+
+abbrev pub told_as : (Event → Bool) → ℕ → Option Event → List (ℕ × Event)
+told_as test id None = []
+told_as test id (Some x) = if test x then (id, x) ∷ [] else []
+
+-- Of each id that is due, the event with that id was told once, where it matches. Of no other id anything was told.
+abbrev pub TellsOnce : Limits → List Entry → ℕ → Type 0
+TellsOnce limits before q =
+    Legal limits before → (g : Registration) → registration q before ≡ Some g → (id : ℕ)
+    → filter (λ (x : ℕ × Event). x.0 == id) (delivered q before)
+      ≡ (if is_due g (position q before) id then told_as (matches g.expr) id (slice_get (events before) id) else [])
 
 -- the answer over a range is that of the batches that reach into it
 abbrev pub BatchesAnswer : List Entry → Type 0
