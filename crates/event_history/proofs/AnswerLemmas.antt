@@ -1,10 +1,10 @@
 -- Answers over ranges: later events change none, adjacent ranges join, and their ids lie in the range.
-use Rattle.std.proofs.Common.{◌≡◌, ℕ, suc, ◌+◌, ◌-◌, ◌<◌, ◌≤◌, Bool, true, false, not, cond, List, [], ◌∷◌, ◌++◌, length, take, drop, filter, refl, ap, sym, ◌∙◌, arith, nat_lt, nat_le}
-use Rattle.std.proofs.lemmas.List.{append-nil, length-append, length-drop, length-take, take-append-drop, take-append-le, take-take, drop-append-le, drop_all}
+use Rattle.std.proofs.Common.{◌≡◌, ℕ, suc, ◌+◌, ◌<◌, ◌≤◌, Bool, true, false, not, cond, List, [], ◌∷◌, ◌++◌, length, take, drop, filter, refl, ap, sym, ◌∙◌, arith, nat_lt, nat_le}
+use Rattle.std.proofs.lemmas.List.{length-drop, length-take, take-append-drop, take-append-le, take-take, drop-append-le, drop_all}
 use Rattle.std.proofs.lemmas.List.Elements.{filter-append}
 use Rattle.std.proofs.lemmas.Bool.Decides.{nat_tests}
 use Rattle.event_history.specs.Delivered.{is_below}
-use Rattle.event_history.specs.Events.{Event, chosen, is_within, numbered, ranged}
+use Rattle.event_history.specs.Events.{Event, chosen, numbered, ranged}
 
 pub lt_true : (a b : ℕ) → a < b → nat_lt a b ≡ true
 lt_true a b h = grind (arith, nat_tests)
@@ -20,7 +20,6 @@ le_false a b h = grind (arith, nat_tests)
 
 pub lt_of : (a b : ℕ) → nat_lt a b ≡ true → a < b
 lt_of a b h = grind (arith, nat_tests)
-
 
 -- later events change no answer of ids below their number
 pub chosen_more : (test : Event → Bool) (from to : ℕ) (xs ys : List Event) → to ≤ length xs → chosen test from to (xs ++ ys) ≡ chosen test from to xs

@@ -1,15 +1,13 @@
 -- What a longer history keeps.
-use Rattle.std.proofs.Common.{◌≡◌, ◌≢◌, ℕ, zero, suc, ◌+◌, ◌*◌, ◌<◌, ◌≤◌, Bool, true, false, not, ◌&&◌, ◌||◌, List, [], ◌∷◌, ◌++◌, Option, None, Some, length, map, take, sum_by, refl, ap, sym, ◌∙◌, subst, arith, ◌==◌, if◌then◌else◌}
-use Rattle.std.proofs.lemmas.List.{take-append-le, take_all, length-append}
-use Rattle.query_meaning.specs.declared.expr.Expr.{Expr}
+use Rattle.std.proofs.Common.{◌≡◌, ◌≢◌, ℕ, zero, suc, ◌+◌, ◌*◌, ◌≤◌, Bool, true, false, ◌&&◌, ◌||◌, List, [], ◌∷◌, ◌++◌, Option, Some, length, map, take, sum_by, refl, ap, ◌∙◌, arith, ◌==◌, if◌then◌else◌}
+use Rattle.std.proofs.lemmas.List.{take-append-le, take_all}
 use Rattle.event_batch.specs.Contents.{Spelled}
 use Rattle.event_history.specs.declared.entry.Deed.{Deed}
 use Rattle.event_history.specs.declared.entry.Deed.TheVariants.{Accept, Claim, Unclaim, Index, Seal, Register, Take, Leave}
 use Rattle.event_history.specs.declared.entry.Entry.{Entry}
 use Rattle.event_history.specs.declared.entry.Limits.{Limits}
-use Rattle.event_history.specs.declared.entry.Mode.{Mode}
 use Rattle.event_history.specs.Events.{Event, events_in}
-use Rattle.event_history.specs.Histories.{accepted, all_below, batch_count, batches_after, content, event_count, events, events_after, first_of, indexes, is_full, is_indexed, is_sealed, row_count, seals, with_accepted}
+use Rattle.event_history.specs.Histories.{accepted, all_below, batch_count, batches_after, content, event_count, events, events_after, indexes, is_indexed, is_sealed, row_count, seals, with_accepted}
 use Rattle.event_history.specs.Laws.{Grows, Keeps}
 use Rattle.event_history.specs.Legal.{Allowed, Legal}
 use Rattle.event_history.specs.Queries.{Registration, has_left, leaves, query_count, registration, registration_after}
@@ -118,8 +116,8 @@ one_more limits e later before legal k =
       indexed = λ b is. or_right (indexes b e.deed) (is_indexed b later) (k.indexed b is);
       sealed = λ g is. or_right (seals g e.deed) (is_sealed g later) (k.sealed g is);
       full = λ g is.
-        all_more (λ i. is_indexed (g * limits.group + i) later) (λ i. is_indexed (g * limits.group + i) (e ∷ later)) limits.group
-        (λ i now. or_right (indexes (g * limits.group + i) e.deed) (is_indexed (g * limits.group + i) later) now) (k.full g is);
+          all_more (λ i. is_indexed (g * limits.group + i) later) (λ i. is_indexed (g * limits.group + i) (e ∷ later)) limits.group
+          (λ i now. or_right (indexes (g * limits.group + i) e.deed) (is_indexed (g * limits.group + i) later) now) (k.full g is);
       left = λ q is. or_right (leaves q e.deed) (has_left q later) (k.left q is);
     }
 

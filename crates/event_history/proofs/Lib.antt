@@ -3,3 +3,4 @@ pub mod GrowthLemmas
 mod OnceLemmas
 pub mod SnapshotLemmas
 pub mod TellingLemmas
+mod Vectors

@@ -1,18 +1,16 @@
 -- Which event of an id is in an answer.
-use Rattle.std.proofs.Common.{◌≡◌, ℕ, zero, suc, ◌+◌, ◌-◌, ◌<◌, ◌≤◌, ◌==◌, Bool, true, false, not, ◌&&◌, ◌||◌, cond, if◌then◌else◌, List, [], ◌∷◌, Option, None, Some, length, take, drop, filter, slice_get, refl, ap, sym, ◌∙◌, subst, arith, max, nat_le, nat_lt, inl, inr}
+use Rattle.std.proofs.Common.{◌≡◌, ℕ, zero, suc, ◌+◌, ◌-◌, ◌<◌, ◌≤◌, ◌==◌, Bool, true, false, not, ◌&&◌, ◌||◌, cond, if◌then◌else◌, List, [], ◌∷◌, Option, length, take, drop, filter, slice_get, refl, ap, sym, ◌∙◌, arith, nat_le, nat_lt, inl, inr}
 use Rattle.std.proofs.lemmas.List.{length-drop, length-take}
 use Rattle.std.proofs.lemmas.Bool.Decides.{eqb_tells, leb_tells, nat_tests}
-use Rattle.query_meaning.specs.declared.expr.Expr.{Expr}
 use Rattle.event_history.specs.declared.entry.Entry.{Entry}
 use Rattle.event_history.specs.declared.entry.Limits.{Limits}
 use Rattle.event_history.specs.Delivered.{delivered, is_below}
 use Rattle.event_history.specs.Events.{Event, answer, chosen, matches, numbered}
 use Rattle.event_history.specs.Histories.{event_count, events}
 use Rattle.event_history.specs.Laws.{TellsOnce, is_due, told_as}
-use Rattle.event_history.specs.Legal.{Legal}
-use Rattle.event_history.specs.Queries.{Registration, live_end, past_begin, position, query_count, registration}
+use Rattle.event_history.specs.Queries.{Registration, past_begin, position, query_count}
 use Rattle.event_history.proofs.AnswerLemmas.{drops_run, le_false, le_true, lt_false, lt_true}
-use Rattle.event_history.proofs.TellingLemmas.{Standing, StandsAt, events_counted, live_end_within, standing_of}
+use Rattle.event_history.proofs.TellingLemmas.{Standing, standing_of}
 
 abbrev has_id : ℕ → ℕ × Event → Bool
 has_id id x = x.0 == id
@@ -76,19 +74,21 @@ chosen_at : (t : Event → Bool) (a b id : ℕ) (xs : List Event)
     → filter (has_id id) (chosen t a b xs) ≡ (if within a b id then told_as t id (slice_get xs id) else [])
 chosen_at t a b id xs =
     let out : (within a b id ≡ false) → ((i : ℕ) → a ≤ i → i < a + length (drop a (take b xs)) → i ≡ id → ⊥)
-      → filter (has_id id) (chosen t a b xs) ≡ (if within a b id then told_as t id (slice_get xs id) else []) =
-      λ e h. none_of t id a (drop a (take b xs)) h ∙ sym (ap (λ (c : Bool). if c then told_as t id (slice_get xs id) else []) e) in
-    elim (leb_tells a id) as (λ _. filter (has_id id) (chosen t a b xs) ≡ (if within a b id then told_as t id (slice_get xs id) else []))
-    [ inl low ↦ elim (leb_tells b id) as (λ _. filter (has_id id) (chosen t a b xs) ≡ (if within a b id then told_as t id (slice_get xs id) else []))
-        [ inl high ↦ out (ap (λ (c : Bool). nat_le a id && c) (lt_false id b high.1) ∙ and_false (nat_le a id))
+    → filter (has_id id) (chosen t a b xs) ≡ (if within a b id then told_as t id (slice_get xs id) else []) =
+    λ e h. none_of t id a (drop a (take b xs)) h ∙ sym (ap (λ (c : Bool). if c then told_as t id (slice_get xs id) else []) e) in
+    elim (leb_tells a id) as (λ _. filter (has_id id) (chosen t a b xs) ≡ (if within a b id then told_as t id (slice_get xs id) else [])) [
+      | inl low ↦ elim (leb_tells b id) as (λ _. filter (has_id id) (chosen t a b xs) ≡ (if within a b id then told_as t id (slice_get xs id) else [])) [
+        | inl high ↦ out (ap (λ (c : Bool). nat_le a id && c) (lt_false id b high.1) ∙ and_false (nat_le a id))
             (λ i from to same. omega (arith, low.1, high.1, length-drop a (take b xs), length-take b xs))
         | inr high ↦
             run_of t id a (id - a) (drop a (take b xs)) (omega (arith, low.1))
             ∙ ap (λ (o : Option Event). told_as t id o)
-              (get_drop (take b xs) a (id - a) id (omega (arith, low.1)) ∙ get_take xs b id high.1)
+            (get_drop (take b xs) a (id - a) id (omega (arith, low.1)) ∙ get_take xs b id high.1)
             ∙ sym (ap (λ (c : Bool). if c then told_as t id (slice_get xs id) else [])
-              (ap (λ (c : Bool). c && nat_lt id b) (le_true a id low.1) ∙ lt_true id b high.1)) ]
-    | inr low ↦ out (ap (λ (c : Bool). c && nat_lt id b) (le_false a id low.1)) (λ i from to same. omega (arith, low.1)) ]
+            (ap (λ (c : Bool). c && nat_lt id b) (le_true a id low.1) ∙ lt_true id b high.1))
+      ]
+      | inr low ↦ out (ap (λ (c : Bool). c && nat_lt id b) (le_false a id low.1)) (λ i from to same. omega (arith, low.1))
+    ]
 
 -- a test that passes only where another one does, behind that one
 inner : (p q : ℕ × Event → Bool) (a b : Bool) (x : ℕ × Event) (xs ys : List (ℕ × Event)) → p x ≡ a → (a ≡ true → b ≡ true) → filter p ys ≡ filter p xs
@@ -123,8 +123,8 @@ module _ (g : Registration) (at : ℕ × ℕ) (id : ℕ) (all : List Event) (tol
       ∙ ap (λ (xs : List (ℕ × Event)). filter (has_id id) xs) past
       ∙ chosen_at (matches g.expr) (past_begin g.mode g.from) at.0 id all
       ∙ sym (ap (λ (c : Bool). if c then told_as (matches g.expr) id (slice_get all id) else [])
-        (ap (λ (c : Bool). within (past_begin g.mode g.from) at.0 id || (c && nat_lt id at.1)) (le_false g.from id low)
-         ∙ or_false (within (past_begin g.mode g.from) at.0 id)))
+      (ap (λ (c : Bool). within (past_begin g.mode g.from) at.0 id || (c && nat_lt id at.1)) (le_false g.from id low)
+      ∙ or_false (within (past_begin g.mode g.from) at.0 id)))
 
   in_live : g.from ≤ id → at.0 ≤ g.from → filter (λ (x : ℕ × Event). not (is_below g.from x)) told ≡ answer g.expr all g.from at.1
       → filter (has_id id) told ≡ (if is_due g at id then told_as (matches g.expr) id (slice_get all id) else [])
@@ -133,14 +133,15 @@ module _ (g : Registration) (at : ℕ × ℕ) (id : ℕ) (all : List Event) (tol
       ∙ ap (λ (xs : List (ℕ × Event)). filter (has_id id) xs) live
       ∙ chosen_at (matches g.expr) g.from at.1 id all
       ∙ sym (ap (λ (c : Bool). if c then told_as (matches g.expr) id (slice_get all id) else [])
-        (ap (λ (c : Bool). (nat_le (past_begin g.mode g.from) id && c) || within g.from at.1 id) (lt_false id at.0 (omega arith))
-         ∙ ap (λ (c : Bool). c || within g.from at.1 id) (and_false (nat_le (past_begin g.mode g.from) id))))
+      (ap (λ (c : Bool). (nat_le (past_begin g.mode g.from) id && c) || within g.from at.1 id) (lt_false id at.0 (omega arith))
+      ∙ ap (λ (c : Bool). c || within g.from at.1 id) (and_false (nat_le (past_begin g.mode g.from) id))))
 
 pub once : (limits : Limits) (before : List Entry) (q : ℕ) → TellsOnce limits before q
 once limits before q legal g is id =
     let s : Standing q (event_count before) (query_count before) (events before) (position q before) (delivered q before) g = standing_of limits before q g legal is in
     elim (leb_tells g.from id) as
     (λ _. filter (λ (x : ℕ × Event). x.0 == id) (delivered q before)
-      ≡ (if is_due g (position q before) id then told_as (matches g.expr) id (slice_get (events before) id) else []))
-    [ inl high ↦ in_live g (position q before) id (events before) (delivered q before) high.1 s.within s.live
-    | inr low ↦ in_past g (position q before) id (events before) (delivered q before) low.1 s.past ]
+    ≡ (if is_due g (position q before) id then told_as (matches g.expr) id (slice_get (events before) id) else [])) [
+      | inl high ↦ in_live g (position q before) id (events before) (delivered q before) high.1 s.within s.live
+      | inr low ↦ in_past g (position q before) id (events before) (delivered q before) low.1 s.past
+    ]

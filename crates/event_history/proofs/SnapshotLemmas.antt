@@ -1,20 +1,19 @@
 -- The law of snapshots: the answers of the batches that reach into a range, joined, are the answer over the range.
-use Rattle.std.proofs.Common.{◌≡◌, ℕ, zero, suc, ◌+◌, ◌-◌, ◌<◌, ◌≤◌, Bool, true, false, not, ◌&&◌, List, [], ◌∷◌, ◌++◌, Option, None, Some, length, map, filter, flat_map, take, drop, slice_get, sum_by, refl, ap, sym, ◌∙◌, subst, arith, max, min, nat_lt, nat_le, cond, add-one, inl, inr}
-use Rattle.std.proofs.lemmas.List.{append-nil, length-append, length-drop, length-map, length-take, map-append, take-append-drop, take_all, take-take, drop_all}
+use Rattle.std.proofs.Common.{◌≡◌, ℕ, zero, suc, ◌+◌, ◌-◌, ◌<◌, ◌≤◌, Bool, true, false, ◌&&◌, List, [], ◌∷◌, ◌++◌, Option, Some, length, map, filter, flat_map, take, drop, slice_get, sum_by, refl, ap, sym, ◌∙◌, arith, max, min, nat_lt, nat_le, cond, add-one, inl, inr}
+use Rattle.std.proofs.lemmas.List.{append-nil, length-append, length-drop, length-map, length-take, map-append, take-append-drop, take_all, drop_all}
 use Rattle.std.proofs.lemmas.List.Elements.{filter-append}
 use Rattle.std.proofs.lemmas.List.Sums.{sum_by-append}
 use Rattle.std.proofs.lemmas.Grind.{flat_map-append}
 use Rattle.std.proofs.lemmas.Bool.Decides.{leb_tells, nat_tests}
-use Rattle.query_meaning.specs.declared.expr.Expr.{Expr}
 use Rattle.event_batch.specs.Contents.{Content, Spelled}
 use Rattle.event_history.specs.declared.entry.Entry.{Entry}
 use Rattle.event_history.specs.declared.entry.Deed.{Deed}
 use Rattle.event_history.specs.declared.entry.Deed.TheVariants.{Accept, Claim, Unclaim, Index, Seal, Register, Take, Leave}
 use Rattle.event_history.specs.Choices.{reaches}
-use Rattle.event_history.specs.Events.{Event, answer, chosen, events_in, events_of, is_within, matches, numbered, ranged}
-use Rattle.event_history.specs.Histories.{accepted, batch_count, batches_after, content, event_count, events, first_of, row_count, with_accepted}
+use Rattle.event_history.specs.Events.{Event, events_in, events_of, is_within, matches, numbered, ranged}
+use Rattle.event_history.specs.Histories.{accepted, batch_count, batches_after, content, events, first_of, row_count, with_accepted}
 use Rattle.event_history.specs.Laws.{BatchesAnswer}
-use Rattle.event_history.specs.Pieces.{Held, batch_answer, held_at, held_in, held_upto}
+use Rattle.event_history.specs.Pieces.{batch_answer, held_at, held_in, held_upto}
 use Rattle.event_history.proofs.AnswerLemmas.{le_false, le_true, lt_false, lt_true, numbered_append}
 use Rattle.event_history.proofs.TellingLemmas.{events_counted}
 
@@ -52,9 +51,10 @@ out_of from to id x h =
 
 out_within : (from to id : ℕ) (x : Event) → (from ≤ id → id < to → ⊥) → is_within from to (id, x) ≡ false
 out_within from to id x out =
-    elim (leb_tells from id) as (λ _. is_within from to (id, x) ≡ false)
-    [ inl h ↦ elim (leb_tells to id) as (λ _. is_within from to (id, x) ≡ false) [ inl k ↦ behind_it from to id x k.1 | inr k ↦ absurd (out h.1 k.1) ]
-    | inr h ↦ before_it from to id x h.1 ]
+    elim (leb_tells from id) as (λ _. is_within from to (id, x) ≡ false) [
+      | inl h ↦ elim (leb_tells to id) as (λ _. is_within from to (id, x) ≡ false) [ inl k ↦ behind_it from to id x k.1 | inr k ↦ absurd (out h.1 k.1) ]
+      | inr h ↦ before_it from to id x h.1
+    ]
 
 not_lt : (a b : ℕ) → nat_lt a b ≡ false → b ≤ a
 not_lt a b h = grind (arith, nat_tests)
@@ -72,9 +72,9 @@ upto_range from to xs h k =
     ∙ ap (λ (zs : List (ℕ × Event)). filter (is_within from to) zs) (numbered_append 0 low here)
     ∙ filter-append (is_within from to) (numbered 0 low) (numbered (0 + length low) here)
     ∙ ap (λ (zs : List (ℕ × Event)). zs ++ filter (is_within from to) (numbered (0 + length low) here))
-      (drops_plain (is_within from to) 0 low (λ id x a b. before_it from to id x (omega (arith, low_length))))
+    (drops_plain (is_within from to) 0 low (λ id x a b. before_it from to id x (omega (arith, low_length))))
     ∙ keeps_plain (is_within from to) (0 + length low) here
-      (λ id x a b. inside from to id x (omega (arith, low_length)) (omega (arith, low_length, here_length)))
+    (λ id x a b. inside from to id x (omega (arith, low_length)) (omega (arith, low_length, here_length)))
     ∙ ap (λ (n : ℕ). numbered n here) begins
 
 range_is : (from to : ℕ) (xs : List Event) → from ≤ to → to ≤ length xs → filter (is_within from to) (numbered 0 xs) ≡ ranged from to xs
@@ -84,7 +84,7 @@ range_is from to xs h k =
     ∙ ap (λ (zs : List (ℕ × Event)). filter (is_within from to) zs) (numbered_append 0 (take to xs) (drop to xs))
     ∙ filter-append (is_within from to) (numbered 0 (take to xs)) (numbered (0 + length (take to xs)) (drop to xs))
     ∙ ap (λ (zs : List (ℕ × Event)). filter (is_within from to) (numbered 0 (take to xs)) ++ zs)
-      (drops_plain (is_within from to) (0 + length (take to xs)) (drop to xs) (λ id x a b. behind_it from to id x (omega (arith, long))))
+    (drops_plain (is_within from to) (0 + length (take to xs)) (drop to xs) (λ id x a b. behind_it from to id x (omega (arith, long))))
     ∙ append-nil (filter (is_within from to) (numbered 0 (take to xs)))
     ∙ upto_range from to xs h k
 
@@ -112,7 +112,7 @@ pub rows_before : (batches : List Spelled) → length (events_in (map content ba
 rows_before [] = refl
 rows_before (packed ∷ batches) =
     let sum : length packed.content.rows + length (events_in (map content batches)) ≡ sum_by row_count (packed ∷ batches) =
-      omega (arith, rows_before batches, sum_by-append row_count (packed ∷ []) batches) in
+    omega (arith, rows_before batches, sum_by-append row_count (packed ∷ []) batches) in
     length-append (events_of packed.content) (events_in (map content batches))
     ∙ ap (λ (n : ℕ). n + length (events_in (map content batches))) (length-map packed.content.rows _)
     ∙ sum
@@ -146,8 +146,8 @@ module _ (test : Event → Bool) (low high : ℕ) (before : List Entry) where
   -- what the batch adds
   batch_adds : (b : ℕ) (packed : Spelled)
       → within_batches test low high (take b (accepted before) ++ packed ∷ [])
-        ≡ within_batches test low high (take b (accepted before))
-          ++ batch_answer test low high (record { no = b; first = first_of b before; packed = packed })
+      ≡ within_batches test low high (take b (accepted before))
+      ++ batch_answer test low high (record { no = b; first = first_of b before; packed = packed })
   unfolding within_batches
   batch_adds b packed =
       let front = take b (accepted before) in
@@ -155,14 +155,14 @@ module _ (test : Event → Bool) (low high : ℕ) (before : List Entry) where
       let place : 0 + length (events_in (map content front)) ≡ first_of b before = omega (arith, counted) in
       ap (λ (xs : List Content). filter (λ (x : ℕ × Event). test x.1) (filter (is_within low high) (numbered 0 (events_in xs)))) (map-append content front (packed ∷ []))
       ∙ ap (λ (xs : List Event). filter (λ (x : ℕ × Event). test x.1) (filter (is_within low high) (numbered 0 xs)))
-        (flat_map-append events_of (map content front) (packed.content ∷ []) ∙ ap (λ (xs : List Event). events_in (map content front) ++ xs) (append-nil (events_of packed.content)))
+      (flat_map-append events_of (map content front) (packed.content ∷ []) ∙ ap (λ (xs : List Event). events_in (map content front) ++ xs) (append-nil (events_of packed.content)))
       ∙ ap (λ (xs : List (ℕ × Event)). filter (λ (x : ℕ × Event). test x.1) (filter (is_within low high) xs))
-        (numbered_append 0 (events_in (map content front)) (events_of packed.content)
-         ∙ ap (λ (n : ℕ). numbered 0 (events_in (map content front)) ++ numbered n (events_of packed.content)) place)
+      (numbered_append 0 (events_in (map content front)) (events_of packed.content)
+      ∙ ap (λ (n : ℕ). numbered 0 (events_in (map content front)) ++ numbered n (events_of packed.content)) place)
       ∙ ap (λ (xs : List (ℕ × Event)). filter (λ (x : ℕ × Event). test x.1) xs)
-        (filter-append (is_within low high) (numbered 0 (events_in (map content front))) (numbered (first_of b before) (events_of packed.content)))
+      (filter-append (is_within low high) (numbered 0 (events_in (map content front))) (numbered (first_of b before) (events_of packed.content)))
       ∙ filter-append (λ (x : ℕ × Event). test x.1) (filter (is_within low high) (numbered 0 (events_in (map content front))))
-        (filter (is_within low high) (numbered (first_of b before) (events_of packed.content)))
+      (filter (is_within low high) (numbered (first_of b before) (events_of packed.content)))
 
   -- a batch without an event in the range adds nothing
   nothing_of : (b : ℕ) (packed : Spelled) → reaches low high before b ≡ false → first_of (b + 1) before ≡ first_of b before + length packed.content.rows
@@ -172,12 +172,12 @@ module _ (test : Event → Bool) (low high : ℕ) (before : List Entry) where
       let long : length (events_of packed.content) ≡ length packed.content.rows = length-map packed.content.rows _ in
       ap (λ (xs : List (ℕ × Event)). filter (λ (x : ℕ × Event). test x.1) xs)
       (drops_plain (is_within low high) (first_of b before) (events_of packed.content)
-       (λ id x from to. out_within low high id x (λ h k. omega (arith, far, long, e))))
+      (λ id x from to. out_within low high id x (λ h k. omega (arith, far, long, e))))
 
   held_adds : (b : ℕ) (packed : Spelled) (reach : Bool) → reaches low high before b ≡ reach → slice_get (accepted before) b ≡ Some packed
       → first_of (b + 1) before ≡ first_of b before + length packed.content.rows
       → flat_map (batch_answer test low high) (held_at reach before b)
-        ≡ batch_answer test low high (record { no = b; first = first_of b before; packed = packed })
+      ≡ batch_answer test low high (record { no = b; first = first_of b before; packed = packed })
   held_adds b packed true r is e =
       ap (λ (o : Option Spelled). flat_map (batch_answer test low high) (held_in before b o)) is
       ∙ append-nil (batch_answer test low high (record { no = b; first = first_of b before; packed = packed }))
@@ -194,7 +194,7 @@ module _ (test : Event → Bool) (low high : ℕ) (before : List Entry) where
       flat_map-append (batch_answer test low high) (held_upto low high before b) (held_at (reaches low high before b) before b)
       ∙ ap (λ (xs : List (ℕ × Event)). xs ++ flat_map (batch_answer test low high) (held_at (reaches low high before b) before b)) (held_are b (omega arith))
       ∙ ap (λ (xs : List (ℕ × Event)). within_batches test low high (take b (accepted before)) ++ xs)
-        (held_adds b packed (reaches low high before b) refl next.1 e)
+      (held_adds b packed (reaches low high before b) refl next.1 e)
       ∙ sym (batch_adds b packed)
       ∙ ap (λ (xs : List Spelled). within_batches test low high xs) (sym next.2)
 

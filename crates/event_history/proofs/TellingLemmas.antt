@@ -1,10 +1,10 @@
 -- The law of telling, by induction over legal histories.
-use Rattle.std.proofs.Common.{◌≡◌, ℕ, zero, suc, ◌+◌, ◌<◌, ◌≤◌, Bool, true, false, not, ◌&&◌, List, [], ◌∷◌, ◌++◌, Option, None, Some, length, map, filter, flat_map, refl, ap, sym, ◌∙◌, subst, arith, ◌==◌, if◌then◌else◌, max, min, nat_lt}
+use Rattle.std.proofs.Common.{◌≡◌, ℕ, zero, suc, ◌+◌, ◌<◌, ◌≤◌, Bool, true, false, not, ◌&&◌, List, [], ◌∷◌, ◌++◌, Option, None, Some, length, map, filter, refl, ap, sym, ◌∙◌, subst, arith, ◌==◌, if◌then◌else◌, max, min, nat_lt}
 use Rattle.std.specs.Option.{option_or}
 use Rattle.std.proofs.lemmas.List.{append-nil, length-append, length-map, map-append}
 use Rattle.std.proofs.lemmas.List.Elements.{filter-append}
 use Rattle.std.proofs.lemmas.Grind.{flat_map-append}
-use Rattle.std.proofs.lemmas.Bool.Decides.{Decides-eqb, nat_tests}
+use Rattle.std.proofs.lemmas.Bool.Decides.{Decides-eqb}
 use Rattle.query_meaning.specs.declared.expr.Expr.{Expr}
 use Rattle.event_batch.specs.Contents.{Content, Spelled}
 use Rattle.event_history.specs.declared.entry.Deed.{Deed}
@@ -13,11 +13,11 @@ use Rattle.event_history.specs.declared.entry.Entry.{Entry}
 use Rattle.event_history.specs.declared.entry.Limits.{Limits}
 use Rattle.event_history.specs.declared.entry.Mode.{Mode}
 use Rattle.event_history.specs.declared.entry.Mode.TheVariants.{Past, Coming, Both, Since}
-use Rattle.event_history.specs.Choices.{again_of, holds_up, least, reaches, some_if, stop_at, taking_at}
+use Rattle.event_history.specs.Choices.{again_of, holds_up, least, reaches, some_if, stop_at}
 use Rattle.event_history.specs.Delivered.{delivered, is_below, told_after, told_between}
 use Rattle.event_history.specs.Events.{Event, answer, events_in, events_of, matches}
 use Rattle.event_history.specs.Histories.{accepted, batch_count, content, event_count, events, events_after, first_of, is_indexed, with_accepted}
-use Rattle.event_history.specs.Laws.{DeliversExactly, IsTold}
+use Rattle.event_history.specs.Laws.{DeliversExactly}
 use Rattle.event_history.specs.Legal.{Allowed, GoesTo, Legal}
 use Rattle.event_history.specs.Queries.{Registration, live_end, past_begin, position, position_after, queries_after, query_count, registration, registration_after}
 use Rattle.event_history.proofs.AnswerLemmas.{chosen_above, chosen_below, chosen_join, chosen_more, chosen_none, chosen_not_above, chosen_not_below, lt_of}
@@ -111,7 +111,7 @@ register_kept : (b : Bool) (q r n count : ℕ) (all : List Event) (at : ℕ × �
     → (b ≡ true → r ≡ q) → r ≡ count + 1 → past_begin mode n ≤ n
     → StandsAt q n count all at told g
     → StandsAt q n (count + 1) all (if b then (past_begin mode n, n) else at) told
-      (if b then Some (record { mode = mode; expr = expr; from = n }) else g)
+    (if b then Some (record { mode = mode; expr = expr; from = n }) else g)
 register_kept true q r n count all at told g mode expr is e h s =
     let same : r ≡ q = is refl in
     fresh q n (count + 1) all told mode expr (omega arith) h (told_none q n count all at told g (omega arith) s)
@@ -164,22 +164,22 @@ take_told q n count all at to told g e low high live s =
       live_to = omega arith;
       known = known;
       past =
-        filter-append below told (A ++ B)
-        ∙ ap (λ (xs : List (ℕ × Event)). filter below told ++ xs)
+          filter-append below told (A ++ B)
+          ∙ ap (λ (xs : List (ℕ × Event)). filter below told ++ xs)
           (filter-append below A B
-           ∙ ap (λ (xs : List (ℕ × Event)). xs ++ filter below B) (chosen_below test g.from at.0 to.0 all low high)
-           ∙ ap (λ (xs : List (ℕ × Event)). A ++ xs) (chosen_not_below test g.from at.1 to.1 all s.live_from)
-           ∙ append-nil A)
-        ∙ ap (λ (xs : List (ℕ × Event)). xs ++ A) s.past
-        ∙ sym (chosen_join test (past_begin g.mode g.from) at.0 to.0 all s.begins low (omega (arith, s.within)));
+          ∙ ap (λ (xs : List (ℕ × Event)). xs ++ filter below B) (chosen_below test g.from at.0 to.0 all low high)
+          ∙ ap (λ (xs : List (ℕ × Event)). A ++ xs) (chosen_not_below test g.from at.1 to.1 all s.live_from)
+          ∙ append-nil A)
+          ∙ ap (λ (xs : List (ℕ × Event)). xs ++ A) s.past
+          ∙ sym (chosen_join test (past_begin g.mode g.from) at.0 to.0 all s.begins low (omega (arith, s.within)));
       live =
-        filter-append above told (A ++ B)
-        ∙ ap (λ (xs : List (ℕ × Event)). filter above told ++ xs)
+          filter-append above told (A ++ B)
+          ∙ ap (λ (xs : List (ℕ × Event)). filter above told ++ xs)
           (filter-append above A B
-           ∙ ap (λ (xs : List (ℕ × Event)). xs ++ filter above B) (chosen_not_above test g.from at.0 to.0 all low high)
-           ∙ chosen_above test g.from at.1 to.1 all s.live_from)
-        ∙ ap (λ (xs : List (ℕ × Event)). xs ++ B) s.live
-        ∙ sym (chosen_join test g.from at.1 to.1 all s.live_from rises (omega (arith, s.live_to)));
+          ∙ ap (λ (xs : List (ℕ × Event)). xs ++ filter above B) (chosen_not_above test g.from at.0 to.0 all low high)
+          ∙ chosen_above test g.from at.1 to.1 all s.live_from)
+          ∙ ap (λ (xs : List (ℕ × Event)). xs ++ B) s.live
+          ∙ sym (chosen_join test g.from at.1 to.1 all s.live_from rises (omega (arith, s.live_to)));
     }
 
 take_kept : (b : Bool) (q r n count : ℕ) (all : List Event) (before : List Entry) (at to : ℕ × ℕ) (told : List (ℕ × Event)) (g : Option Registration)
@@ -201,7 +201,7 @@ rows_counted batches packed =
     ∙ ap (λ (xs : List Event). length xs) (flat_map-append events_of (map content batches) (packed.content ∷ []))
     ∙ length-append (events_in (map content batches)) (events_of packed.content ++ [])
     ∙ ap (λ (n : ℕ). length (events_in (map content batches)) + n)
-      (ap (λ (xs : List Event). length xs) (append-nil (events_of packed.content)) ∙ length-map packed.content.rows _)
+    (ap (λ (xs : List Event). length xs) (append-nil (events_of packed.content)) ∙ length-map packed.content.rows _)
 
 deed_counted : (d : Deed) (batches : List Spelled) (n : ℕ) → length (events_in (map content batches)) ≡ n
     → length (events_in (map content (with_accepted d batches))) ≡ events_after d n
@@ -250,14 +250,14 @@ take_step : (before : List Entry) (q r past_to live_to : ℕ)
     → GoesTo before r past_to live_to (registration r before)
     → StandsAt q (event_count before) (query_count before) (events before) (position q before) (delivered q before) (registration q before)
     → StandsAt q (event_count before) (query_count before) (events before) (position_after q (Take r past_to live_to) (event_count before) (position q before))
-      (told_after q (Take r past_to live_to) before (delivered q before)) (registration q before)
+    (told_after q (Take r past_to live_to) before (delivered q before)) (registration q before)
 take_step before q r past_to live_to goes s =
     take_kept (r == q) q r (event_count before) (query_count before) (events before) before (position q before) (past_to, live_to) (delivered q before)
     (registration q before) (same_if r q) (events_counted before)
     (λ h is same.
-      goes_on before q past_to live_to h
-      (within_of q (event_count before) (query_count before) (events before) (position q before) (delivered q before) (registration q before) h is s)
-      (subst (λ (o : Option Registration). GoesTo before q past_to live_to o) is (goes_of before q r past_to live_to (same_if r q same) goes)))
+    goes_on before q past_to live_to h
+    (within_of q (event_count before) (query_count before) (events before) (position q before) (delivered q before) (registration q before) h is s)
+    (subst (λ (o : Option Registration). GoesTo before q past_to live_to o) is (goes_of before q r past_to live_to (same_if r q same) goes)))
     (λ none same. subst (λ (o : Option Registration). GoesTo before q past_to live_to o) none (goes_of before q r past_to live_to (same_if r q same) goes))
     s
 
@@ -265,13 +265,13 @@ take_step before q r past_to live_to goes s =
 deed_kept : (q : ℕ) (before : List Entry) (d : Deed) (limits : Limits) → Allowed limits before d
     → StandsAt q (event_count before) (query_count before) (events before) (position q before) (delivered q before) (registration q before)
     → StandsAt q (events_after d (event_count before)) (queries_after d (query_count before)) (events_in (map content (with_accepted d (accepted before))))
-      (position_after q d (event_count before) (position q before)) (told_after q d before (delivered q before))
-      (registration_after q d (event_count before) (registration q before))
+    (position_after q d (event_count before) (position q before)) (told_after q d before (delivered q before))
+    (registration_after q d (event_count before) (registration q before))
 deed_kept q before (Accept packed) limits a s =
     subst (λ (all : List Event). StandsAt q (event_count before + length packed.content.rows) (query_count before) all (position q before) (delivered q before) (registration q before))
     (sym (events_more (accepted before) packed))
     (accept_kept q (event_count before) (query_count before) (length packed.content.rows) (events before) (events_of packed.content) (position q before)
-     (delivered q before) (registration q before) (events_counted before) s)
+    (delivered q before) (registration q before) (events_counted before) s)
 deed_kept q before (Claim b) limits a s = s
 deed_kept q before (Unclaim b) limits a s = s
 deed_kept q before (Index b) limits a s = s

@@ -1,6 +1,6 @@
 -- What a history says of batches. It is read as its past: the newest entry first, so that what stands behind an entry is
 -- the history before it.
-use Rattle.std.specs.Prelude.{ℕ, zero, suc, ◌+◌, ◌*◌, Bool, true, false, not, ◌&&◌, ◌||◌, ◌==◌, if◌then◌else◌, List, [], ◌∷◌, ◌++◌, length, reverse, map, take, sum_by}
+use Rattle.std.specs.Prelude.{ℕ, zero, suc, ◌+◌, ◌*◌, Bool, true, false, ◌&&◌, ◌||◌, ◌==◌, if◌then◌else◌, List, [], ◌∷◌, ◌++◌, length, reverse, map, take, sum_by}
 use Rattle.event_batch.specs.Contents.{Content, Spelled}
 use Rattle.event_history.specs.declared.entry.Deed.{Deed}
 use Rattle.event_history.specs.declared.entry.Deed.TheVariants.{Accept, Claim, Unclaim, Index, Seal}

@@ -1,7 +1,6 @@
 -- Laws of histories.
 use Rattle.std.specs.Prelude.{◌≡◌, ℕ, ◌≤◌, ◌==◌, Bool, true, not, ◌&&◌, ◌||◌, if◌then◌else◌, List, [], ◌∷◌, ◌++◌, Option, None, Some, filter, flat_map, take, slice_get, nat_le, nat_lt}
 use Rattle.query_meaning.specs.declared.expr.Expr.{Expr}
-use Rattle.event_batch.specs.Contents.{Spelled}
 use Rattle.event_history.specs.declared.entry.Entry.{Entry}
 use Rattle.event_history.specs.declared.entry.Limits.{Limits}
 use Rattle.event_history.specs.Delivered.{delivered, is_below}
@@ -34,7 +33,7 @@ abbrev pub TellsOnce : Limits → List Entry → ℕ → Type 0
 TellsOnce limits before q =
     Legal limits before → (g : Registration) → registration q before ≡ Some g → (id : ℕ)
     → filter (λ (x : ℕ × Event). x.0 == id) (delivered q before)
-      ≡ (if is_due g (position q before) id then told_as (matches g.expr) id (slice_get (events before) id) else [])
+    ≡ (if is_due g (position q before) id then told_as (matches g.expr) id (slice_get (events before) id) else [])
 
 -- the answer over a range is that of the batches that reach into it
 abbrev pub BatchesAnswer : List Entry → Type 0

@@ -1,5 +1,5 @@
 -- What a history says of queries.
-use Rattle.std.specs.Prelude.{ℕ, ◌+◌, Bool, true, false, ◌||◌, ◌==◌, if◌then◌else◌, List, [], ◌∷◌, Option, None, Some}
+use Rattle.std.specs.Prelude.{ℕ, ◌+◌, Bool, false, ◌||◌, ◌==◌, if◌then◌else◌, List, [], ◌∷◌, Option, None, Some}
 use Rattle.query_meaning.specs.declared.expr.Expr.{Expr}
 use Rattle.event_history.specs.declared.entry.Deed.{Deed}
 use Rattle.event_history.specs.declared.entry.Deed.TheVariants.{Register, Take, Leave}

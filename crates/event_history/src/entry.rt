@@ -85,15 +85,25 @@ impl SharedExpr {
 #[derive(Drop)]
 pub enum Deed {
     /// A batch was accepted: the next one.
-    Accept { packed: Packed },
+    Accept {
+        packed: Packed,
+    },
     /// A batch was claimed, to be indexed.
-    Claim { batch: u64 },
+    Claim {
+        batch: u64,
+    },
     /// A claim was given back.
-    Unclaim { batch: u64 },
+    Unclaim {
+        batch: u64,
+    },
     /// A batch's index was published.
-    Index { batch: u64 },
+    Index {
+        batch: u64,
+    },
     /// A group's merged index was published.
-    Seal { group: u64 },
+    Seal {
+        group: u64,
+    },
     /// A query was registered: the next one.
     Register {
         query: u32,
@@ -107,7 +117,9 @@ pub enum Deed {
         live_to: u64,
     },
     /// A query left.
-    Leave { query: u32 },
+    Leave {
+        query: u32,
+    },
 }
 
 /// A deed and the seat that did it.
