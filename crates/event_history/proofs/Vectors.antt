@@ -28,7 +28,7 @@ use Rattle.event_history.specs.Events.{Event, answer, chosen, event_of, events_i
 use Rattle.event_history.specs.Histories.{accepted, all_below, batch_count, batches_after, content, event_count, events, events_after, first_of, indexes, is_full, is_indexed, is_marked, is_sealed, mark_after, past, row_count, seals, with_accepted}
 use Rattle.event_history.specs.Laws.{is_due, told_as}
 use Rattle.event_history.specs.Legal.{Legal}
-use Rattle.event_history.specs.Pieces.{Held, Piece, batch_answer, group_parts, group_piece, group_reaches, held_at, held_in, held_of, held_upto, one_if, parts_of, parts_upto, piece_in, reached}
+use Rattle.event_history.specs.Pieces.{AreAdjacent, Held, Piece, batch_answer, group_parts, group_piece, group_reaches, held_at, held_in, held_of, held_upto, joined, one_if, parts_of, parts_upto, piece_events, piece_in, reached}
 use Rattle.event_history.specs.Queries.{has_left, leaves, live_end, past_begin, position, position_after, queries_after, query_count, registration, registration_after}
 use Rattle.event_history.specs.Steps.{Reply, Step, claim_of, claim_step, does, group_pieces, group_reply, replies, step, take_step, taken_step}
 use Rattle.event_history.specs.Steps as s
@@ -271,6 +271,15 @@ parts = refl
 parts_so_far : parts_upto 2 0 6 (at 15) 1 ∷ group_parts 2 3 4 (at 11) 0 ∷ reached 0 4 (at 15) 1 2 ∷ one_if true pair ∷ one_if false pair ∷ []
     ≡ (pair ∷ []) ∷ (whole second_batch 1 3 ∷ []) ∷ (whole second_batch 1 3 ∷ []) ∷ (pair ∷ []) ∷ [] ∷ []
 parts_so_far = refl
+
+joined_pieces : joined (whole first_batch 0 0 ∷ whole second_batch 1 3 ∷ []) ≡ pair
+joined_pieces = refl
+
+adjacent : AreAdjacent (whole first_batch 0 0 ∷ whole second_batch 1 3 ∷ whole third_batch 2 5 ∷ [])
+adjacent = (refl, refl, (refl, refl, tt))
+
+events_of_piece : piece_events pair ≡ event 1 ∷ event 2 ∷ event 1 ∷ event 1 ∷ event 3 ∷ []
+events_of_piece = refl
 
 group_reach : group_reaches 2 4 5 (at 15) 0 ∷ group_reaches 2 5 6 (at 15) 0 ∷ []
     ≡ true ∷ false ∷ []

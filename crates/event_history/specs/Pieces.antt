@@ -1,10 +1,10 @@
 -- What an index stands for, and the parts and batches of a range.
-use Rattle.std.specs.Prelude.{ℕ, zero, suc, ◌+◌, ◌*◌, Bool, true, false, if◌then◌else◌, List, [], ◌∷◌, ◌++◌, Option, None, Some, min, max, nat_lt, map, take, drop, slice_get, filter}
+use Rattle.std.specs.Prelude.{◌≡◌, ℕ, zero, suc, ◌+◌, ◌*◌, Bool, true, false, if◌then◌else◌, List, [], ◌∷◌, ◌++◌, Option, None, Some, min, max, nat_lt, map, take, drop, slice_get, filter, flat_map, length}
 use Rattle.std.specs.Option.{option_to_list}
 use Rattle.event_batch.specs.Contents.{Content, Spelled}
 use Rattle.event_history.specs.declared.entry.Entry.{Entry}
 use Rattle.event_history.specs.Choices.{reaches}
-use Rattle.event_history.specs.Events.{Event, events_of, is_within, numbered}
+use Rattle.event_history.specs.Events.{Event, events_in, events_of, is_within, numbered}
 use Rattle.event_history.specs.Histories.{accepted, batch_count, content, first_of, is_sealed}
 
 -- adjacent batches: the number of the first, the id of its first event, and what they say
@@ -12,6 +12,25 @@ pub record Piece : Type 0 where
   pub batch : ℕ
   pub first : ℕ
   pub contents : List Content
+
+-- the events of a piece, in order
+abbrev pub piece_events : Piece → List Event
+piece_events p = events_in p.contents
+
+-- the first of these pieces begins with this batch and this event, and each further one where the one before it ends
+abbrev pub Follow : ℕ → ℕ → List Piece → Type 0
+Follow batch first [] = Unit {0}
+Follow batch first (p ∷ ps) = (p.batch ≡ batch) × (p.first ≡ first) × Follow (batch + length p.contents) (first + length (piece_events p)) ps
+
+-- the pieces follow each other: each begins with the next batch and the next event
+abbrev pub AreAdjacent : List Piece → Type 0
+AreAdjacent [] = Unit {0}
+AreAdjacent (p ∷ ps) = Follow (p.batch + length p.contents) (p.first + length (piece_events p)) ps
+
+-- adjacent pieces as one
+abbrev pub joined : List Piece → Piece
+joined [] = record { batch = 0; first = 0; contents = [] }
+joined (p ∷ ps) = record { batch = p.batch; first = p.first; contents = flat_map (λ q. q.contents) (p ∷ ps) }
 
 -- a batch with its number and the id of its first event
 pub record Held : Type 0 where
