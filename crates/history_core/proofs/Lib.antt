@@ -1,0 +1,4 @@
+pub mod AcceptLemmas
+pub mod CarryLemmas
+pub mod LegalLemmas
+pub mod ListLemmas
