@@ -8,7 +8,8 @@ use Rattle.event_history.specs.Delivered.{delivered, is_below}
 use Rattle.event_history.specs.Events.{Event, answer, chosen, matches, numbered}
 use Rattle.event_history.specs.Histories.{event_count, events}
 use Rattle.event_history.specs.Laws.{TellsOnce, is_due, told_as}
-use Rattle.event_history.specs.Queries.{Registration, past_begin, position, query_count}
+use Rattle.event_history.specs.Modes.{past_begin}
+use Rattle.event_history.specs.Queries.{Registration, position, query_count}
 use Rattle.event_history.proofs.AnswerLemmas.{drops_run, le_false, le_true, lt_false, lt_true}
 use Rattle.event_history.proofs.TellingLemmas.{Standing, standing_of}
 

@@ -19,7 +19,8 @@ use Rattle.event_history.specs.Events.{Event, answer, events_in, events_of, matc
 use Rattle.event_history.specs.Histories.{accepted, batch_count, content, event_count, events, events_after, first_of, is_indexed, with_accepted}
 use Rattle.event_history.specs.Laws.{DeliversExactly}
 use Rattle.event_history.specs.Legal.{Allowed, GoesTo, Legal}
-use Rattle.event_history.specs.Queries.{Registration, live_end, past_begin, position, position_after, queries_after, query_count, registration, registration_after}
+use Rattle.event_history.specs.Modes.{live_end, past_begin}
+use Rattle.event_history.specs.Queries.{Registration, position, position_after, queries_after, query_count, registration, registration_after}
 use Rattle.event_history.proofs.AnswerLemmas.{chosen_above, chosen_below, chosen_join, chosen_more, chosen_none, chosen_not_above, chosen_not_below, lt_of}
 
 -- What holds of a registered query: its number, where its parts and positions stand, and what it was told.

@@ -29,7 +29,8 @@ use Rattle.event_history.specs.Histories.{accepted, all_below, batch_count, batc
 use Rattle.event_history.specs.Laws.{is_due, told_as}
 use Rattle.event_history.specs.Legal.{Legal}
 use Rattle.event_history.specs.Pieces.{AreAdjacent, Held, Piece, batch_answer, group_parts, group_piece, group_reaches, held_at, held_in, held_of, held_upto, joined, one_if, parts_of, parts_upto, piece_events, piece_in, reached}
-use Rattle.event_history.specs.Queries.{has_left, leaves, live_end, past_begin, position, position_after, queries_after, query_count, registration, registration_after}
+use Rattle.event_history.specs.Modes.{live_end, past_begin}
+use Rattle.event_history.specs.Queries.{has_left, leaves, position, position_after, queries_after, query_count, registration, registration_after}
 use Rattle.event_history.specs.Steps.{Reply, Step, claim_of, claim_step, does, group_pieces, group_reply, replies, step, take_step, taken_step}
 use Rattle.event_history.specs.Steps as s
 

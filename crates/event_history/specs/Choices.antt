@@ -4,7 +4,8 @@ use Rattle.std.specs.Option.{option_or}
 use Rattle.query_meaning.specs.declared.expr.Expr.{Expr}
 use Rattle.event_history.specs.declared.entry.Entry.{Entry}
 use Rattle.event_history.specs.Histories.{batch_count, event_count, first_of, is_indexed, is_marked, is_sealed, is_full}
-use Rattle.event_history.specs.Queries.{Registration, live_end}
+use Rattle.event_history.specs.Modes.{live_end}
+use Rattle.event_history.specs.Queries.{Registration}
 
 abbrev pub some_if : Bool → ℕ → Option ℕ
 some_if b n = if b then Some n else None

@@ -8,7 +8,8 @@ use Rattle.event_history.specs.Events.{Event, answer, matches}
 use Rattle.event_history.specs.Histories.{accepted, batch_count, event_count, events, first_of, is_full, is_indexed, is_sealed}
 use Rattle.event_history.specs.Legal.{Legal}
 use Rattle.event_history.specs.Pieces.{batch_answer, held_of}
-use Rattle.event_history.specs.Queries.{Registration, has_left, past_begin, position, registration}
+use Rattle.event_history.specs.Modes.{past_begin}
+use Rattle.event_history.specs.Queries.{Registration, has_left, position, registration}
 
 -- What was told of ids below the registration number are the matching events of the past part up to the past position,
 -- and what was told of ids from there on are those of the live part up to the live position. Each stands there once, in

@@ -6,7 +6,8 @@ use Rattle.event_history.specs.declared.entry.Entry.{Entry}
 use Rattle.event_history.specs.declared.entry.Limits.{Limits}
 use Rattle.event_history.specs.Choices.{next_claim, taking_at}
 use Rattle.event_history.specs.Histories.{batch_count, event_count, is_full, is_indexed, is_sealed}
-use Rattle.event_history.specs.Queries.{Registration, has_left, past_begin, position, query_count, registration}
+use Rattle.event_history.specs.Modes.{past_begin}
+use Rattle.event_history.specs.Queries.{Registration, has_left, position, query_count, registration}
 
 -- a take of a registered query goes where a take goes
 abbrev pub GoesTo : List Entry → ℕ → ℕ → ℕ → Option Registration → Type 0

@@ -4,6 +4,7 @@ pub mod Events
 pub mod Histories
 pub mod Laws
 pub mod Legal
+pub mod Modes
 pub mod Pieces
 pub mod Queries
 pub mod Steps

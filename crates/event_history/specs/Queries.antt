@@ -5,8 +5,8 @@ use Rattle.event_history.specs.declared.entry.Deed.{Deed}
 use Rattle.event_history.specs.declared.entry.Deed.TheVariants.{Register, Take, Leave}
 use Rattle.event_history.specs.declared.entry.Entry.{Entry}
 use Rattle.event_history.specs.declared.entry.Mode.{Mode}
-use Rattle.event_history.specs.declared.entry.Mode.TheVariants.{Past, Coming, Both, Since}
 use Rattle.event_history.specs.Histories.{event_count}
+use Rattle.event_history.specs.Modes.{past_begin}
 
 -- how a query was registered: its registration number is the number of events there were
 pub record Registration : Type 0 where
@@ -30,18 +30,6 @@ queries_after _ n = n
 abbrev pub query_count : List Entry → ℕ
 query_count [] = 0
 query_count (e ∷ before) = queries_after e.deed (query_count before)
-
--- Where the past part begins of a query with this registration number. It ends there, and the live part begins there.
-abbrev pub past_begin : Mode → ℕ → ℕ
-past_begin Past from = 0
-past_begin Coming from = from
-past_begin Both from = 0
-past_begin (Since id) from = id
-
--- where the live part ends when there are n events
-abbrev pub live_end : Mode → ℕ → ℕ → ℕ
-live_end Past from n = from
-live_end _ from n = n
 
 abbrev pub position_after : ℕ → Deed → ℕ → ℕ × ℕ → ℕ × ℕ
 position_after q (Register r mode expr) n rest = if r == q then (past_begin mode n, n) else rest

@@ -10,7 +10,8 @@ use Rattle.event_history.specs.declared.entry.Mode.{Mode}
 use Rattle.event_history.specs.Choices.{Taking, next_claim, next_group, taking_at}
 use Rattle.event_history.specs.Histories.{accepted, batch_count, event_count, first_of, is_indexed, is_sealed}
 use Rattle.event_history.specs.Pieces.{Held, Piece, held_of, parts_of, piece_in}
-use Rattle.event_history.specs.Queries.{Registration, has_left, past_begin, position, query_count, registration}
+use Rattle.event_history.specs.Modes.{past_begin}
+use Rattle.event_history.specs.Queries.{Registration, has_left, position, query_count, registration}
 
 -- what is asked of a store
 pub data Request : Type 0 where

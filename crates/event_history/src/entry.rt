@@ -1,6 +1,7 @@
 //! The entries of a history.
 ghost use Rattle.std.specs.Prelude.{◌≡◌, IfOk, IfErr};
 ghost use Rattle.std.specs.Arc.{arc_value};
+ghost use Rattle.event_history.specs.Modes.{live_end, past_begin};
 
 use event_batch::Packed;
 use query_meaning::Expr;
@@ -32,6 +33,29 @@ pub enum Mode {
     Both,
     /// Both, the past part from this event on.
     Since { from: u64 },
+}
+
+impl Mode {
+    /// Where the past part begins of a query that is registered where there are `from` events.
+    pub fn past_begin(self, from: u64) -> u64
+        ensures { result ≡ past_begin self from }
+    {
+        match self {
+            Mode::Past | Mode::Both => 0,
+            Mode::Coming => from,
+            Mode::Since { from: id } => id,
+        }
+    }
+
+    /// Where the live part ends where there are `events` events.
+    pub fn live_end(self, from: u64, events: u64) -> u64
+        ensures { result ≡ live_end self from events }
+    {
+        match self {
+            Mode::Past => from,
+            _ => events,
+        }
+    }
 }
 
 /// An expression that is shared.

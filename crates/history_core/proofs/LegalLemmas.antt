@@ -57,3 +57,24 @@ pub unnamed : (limits : Limits) (before : List Entry) (b : ℕ) → Legal limits
 unnamed limits [] b legal h = (refl, refl)
 unnamed limits (e ∷ before) b legal h =
     unnamed_by limits before e.deed b legal.1 (count_before e.deed before b h) (unnamed limits before b legal.0 (count_before e.deed before b h))
+
+-- Searches.
+none_here : (first : Option ℕ) (pass : Bool) (n : ℕ) → first ≡ None → pass ≡ false → option_or first (some_if pass n) ≡ None
+none_here first pass n e f = ap (λ (o : Option ℕ). option_or o (some_if pass n)) e ∙ ap (λ (b : Bool). some_if b n) f
+
+pub least_none : (test : ℕ → Bool) (n : ℕ) → ((b : ℕ) → b < n → test b ≡ false) → least test n ≡ None
+least_none test zero h = refl
+least_none test (suc n) h = none_here (least test n) (test n) n (least_none test n (λ b k. h b (omega arith))) (h n (omega arith))
+
+least_step : (test : ℕ → Bool) (n at : ℕ) → test at ≡ true → ((b : ℕ) → b < at → test b ≡ false) → (at < n → least test n ≡ Some at)
+    → at < suc n → least test (suc n) ≡ Some at
+least_step test n at pass before below h =
+    elim (eqb_tells at n) as (λ _. least test (suc n) ≡ Some at)
+    [ inl e ↦
+        ap (λ (o : Option ℕ). option_or o (some_if (test n) n)) (least_none test n (λ b k. before b (omega (arith, e.1))))
+        ∙ ap (λ (b : Bool). some_if b n) (ap test (sym e.1) ∙ pass) ∙ ap (λ (m : ℕ). Some m) (sym e.1)
+    | inr e ↦ ap (λ (o : Option ℕ). option_or o (some_if (test n) n)) (below (omega (arith, e.1))) ]
+
+pub least_is : (test : ℕ → Bool) (n at : ℕ) → test at ≡ true → ((b : ℕ) → b < at → test b ≡ false) → at < n → least test n ≡ Some at
+least_is test zero at pass before h = absurd (omega (arith, h))
+least_is test (suc n) at pass before h = least_step test n at pass before (least_is test n at pass before) h

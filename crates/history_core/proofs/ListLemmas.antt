@@ -55,3 +55,14 @@ got_none (x ∷ xs) (suc i) e = let rest : length xs ≤ i = got_none xs i e in 
 
 pub not_below : (a b : ℕ) → false ≡ nat_lt a b → b ≤ a
 not_below a b h = grind (arith, nat_tests)
+
+-- the element at a place within a list, as indexing gives it
+pub at_index : {X : Type 0} (xs : List X) (i : ℕ) → i < length xs → (x : X) × (x ≡ slice_index_or xs i x)
+at_index [] i h = absurd (omega (arith, h))
+at_index (x ∷ xs) zero h = (x, refl)
+at_index (x ∷ xs) (suc i) h = at_index xs i (omega (arith, h))
+
+pub same_element : {X : Type 0} (xs : List X) (i : ℕ) (x y : X) → i < length xs → x ≡ slice_index_or xs i x → y ≡ slice_index_or xs i y → x ≡ y
+same_element [] i x y h e f = absurd (omega (arith, h))
+same_element (z ∷ xs) zero x y h e f = e ∙ sym f
+same_element (z ∷ xs) (suc i) x y h e f = same_element xs i x y (omega (arith, h)) e f

@@ -4,6 +4,8 @@ ghost use Rattle.event_history.specs.Histories.{batch_count, event_count, is_ind
 ghost use Rattle.event_history.specs.Legal.{Legal};
 
 mod accept;
+mod claims;
+mod queries;
 
 use crate::kept::{Kept, Query, Seal};
 use event_history::{Entry, Limits};
