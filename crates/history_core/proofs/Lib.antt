@@ -4,3 +4,4 @@ pub mod ClaimLemmas
 pub mod LegalLemmas
 pub mod ListLemmas
 pub mod MakeLemmas
+pub mod QueryLemmas
