@@ -1,0 +1,4 @@
+pub mod CoverLemmas
+pub mod KindLemmas
+pub mod NumberLemmas
+pub mod PairLemmas
