@@ -1,10 +1,11 @@
 -- How an index goes on standing for a growing column, and what its answers say of the cells.
-use Rattle.std.proofs.Common.{◌≡◌, ℕ, zero, suc, ◌+◌, ◌-◌, ◌<◌, ◌≤◌, Bool, true, false, List, [], ◌∷◌, ◌++◌, length, get_or, map, replicate, Option, None, Some, refl, ap, sym, ◌∙◌, subst, append_assoc, append-nil, arith}
+use Rattle.std.proofs.Common.{◌≡◌, ℕ, zero, suc, ◌+◌, ◌-◌, ◌<◌, ◌≤◌, Bool, true, false, not, List, [], ◌∷◌, ◌++◌, length, get_or, map, replicate, Option, None, Some, refl, ap, sym, ◌∙◌, subst, append_assoc, append-nil, arith}
 use Rattle.std.proofs.lemmas.List.{map-append, length-append, length-replicate, length-map, replicate-append-replicate}
 use Rattle.vast_value.specs.declared.cell.Cell.{Cell}
 use Rattle.vast_value.specs.declared.kind.Kind.{Kind}
 use Rattle.bits_law.specs.Keys.{meets, padded, answers, with_gap, with_key}
-use Rattle.bits_law.proofs.AnswerLemmas.{answers-same}
+use Rattle.bits_law.specs.Bitwise.{bitwise, and_not}
+use Rattle.bits_law.proofs.AnswerLemmas.{answers-same, answers-and_not}
 use Rattle.column_index.specs.Columns.{fits_kind, AreOf, Answers, key_in, keys_of, Covers}
 
 module _ {K : Type 0} where
@@ -149,3 +150,8 @@ never_met key bits cells e = none_answers bits cells e ∙ answers-same (λ _. f
     unmet : {K : Type 0} (o : Option K) → meets (λ _. false) o ≡ false
     unmet None = refl
     unmet (Some k) = refl
+
+-- the rows that have a key and aren't among others
+pub others_answers : {K : Type 0} (p : K → Bool) (held : List (Option K)) (set rows others : List Bool) → others ≡ bitwise and_not set rows → set ≡ answers (λ _. true) held → rows ≡ answers p held → others ≡ answers (λ k. not (p k)) held
+others_answers p held set rows others e f g =
+    e ∙ ap (λ (bits : List Bool). bitwise and_not bits rows) f ∙ ap (bitwise and_not (answers (λ _. true) held)) g ∙ answers-and_not (λ _. true) p held

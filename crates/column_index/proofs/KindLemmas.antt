@@ -55,7 +55,7 @@ has_none elem.Addr e h g = no_subnet e h
 has_none elem.Subnet e h g = no_subnet e h
 has_none _ e h g = refl
 
-unlike : (rel : Rel) (l e : Elem) → is_network e ≡ false → goes_with l e ≡ false → relates rel l e ≡ false
+pub unlike : (rel : Rel) (l e : Elem) → is_network e ≡ false → goes_with l e ≡ false → relates rel l e ≡ false
 unlike Within l e h g = and_right (is_subnet l) (is_subnet e || elem_eq e elem.Addr) (in_none e h)
 unlike Contains l e h g = has_none l e h g
 unlike Eq l e h g = g

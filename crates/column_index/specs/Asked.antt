@@ -14,11 +14,15 @@ use Rattle.column_index.specs.declared.asked.AddressAsked.{AddressAsked}
 use Rattle.column_index.specs.declared.asked.AddressAsked.TheVariants as address
 use Rattle.column_index.specs.declared.asked.SubnetAsked.{SubnetAsked}
 use Rattle.column_index.specs.declared.asked.SubnetAsked.TheVariants as subnet
+use Rattle.column_index.specs.declared.asked.TextAsked.{TextAsked}
+use Rattle.column_index.specs.declared.asked.TextAsked.TheVariants as text
 use Rattle.column_index.specs.declared.asked.PortAsked.{PortAsked}
 use Rattle.column_index.specs.declared.asked.PortAsked.TheVariants as port
 use Rattle.column_index.specs.declared.asked.Asked.{Asked}
 use Rattle.column_index.specs.declared.asked.Asked.TheVariants.{Never, Set, Ordered}
-use Rattle.column_index.specs.Columns.{flag_of}
+use Rattle.vast_value.specs.declared.cell.Cell.{Cell}
+use Rattle.vast_value.specs.declared.cell.Cell.TheVariants as cell
+use Rattle.column_index.specs.Columns.{flag_of, port_of, transport_of}
 use Rattle.query_meaning.specs.declared.expr.Rel.{Rel}
 use Rattle.query_meaning.specs.declared.expr.Rel.TheVariants.{Eq, Ne, Lt, Le, Gt, Ge, Within, Contains}
 
@@ -123,3 +127,15 @@ abbrev pub port_test : PortAsked → ℕ → ℕ → Bool
 port_test port.Never number code = false
 port_test (port.Stands rel p over) number code = stands_test rel p over number code
 port_test (port.Differs p over) number code = not (stands_test order.Eq p over number code)
+
+-- of a cell of a port, false of an unset one
+abbrev pub cell_port_test : PortAsked → Cell → Bool
+cell_port_test asked (cell.One v) = port_test asked (port_of v) (transport_of v)
+cell_port_test asked _ = false
+
+-- of texts
+abbrev pub text_asked : Rel → TextAsked
+text_asked Eq = text.Equal
+text_asked Ne = text.Differs
+text_asked Contains = text.Contains
+text_asked _ = text.Never

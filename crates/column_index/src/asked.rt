@@ -1,6 +1,7 @@
 //! What is asked of an index of numbers.
-ghost use Rattle.std.specs.Prelude.{◌≡◌};
-ghost use Rattle.column_index.specs.Asked.{address_asked, equally, exactly, flags_asked, maybe_so, port_asked, subnet_asked, surely};
+ghost use Rattle.std.specs.Prelude.{◌≡◌, IsTrue};
+ghost use Rattle.vast_value.specs.declared.value.Value.TheVariants as value;
+ghost use Rattle.column_index.specs.Asked.{address_asked, exactly, flags_asked, is_below, maybe_so, port_asked, subnet_asked, surely, text_asked};
 
 use bits_law::Order;
 use query_meaning::Rel;
@@ -32,17 +33,6 @@ pub(crate) fn exactly(rel: Rel, key: u64) -> Asked
     }
 }
 
-/// Of keys that have no order.
-pub(crate) fn equally(rel: Rel, key: u64) -> Asked
-    ensures { result ≡ equally rel key }
-{
-    match rel {
-        Rel::Eq => Asked::Ordered(Order::Eq, key),
-        Rel::Ne => Asked::Ordered(Order::Ne, key),
-        _ => Asked::Never,
-    }
-}
-
 /// Of times whose seconds are known: where the relation is sure.
 pub(crate) fn surely(rel: Rel, key: u64) -> Asked
     ensures { result ≡ surely rel key }
@@ -68,13 +58,25 @@ pub(crate) fn maybe_so(rel: Rel, key: u64) -> Asked
     }
 }
 
+fn flag_asked(rel: Rel, held: bool) -> Asked
+    ensures value { result ≡ flags_asked rel (value.Bool held) }
+    ensures below { IsTrue (is_below 2 result) }
+{
+    let key = held as u64;
+    match rel {
+        Rel::Eq => Asked::Ordered(Order::Eq, key),
+        Rel::Ne => Asked::Ordered(Order::Ne, key),
+        _ => Asked::Never,
+    }
+}
+
 /// Of bools.
 pub(crate) fn flags_asked(rel: Rel, literal: &Value) -> Asked
-    ensures { result ≡ flags_asked rel literal.now }
+    ensures value { result ≡ flags_asked rel literal.now }
+    ensures below { IsTrue (is_below 2 result) }
 {
     match literal {
-        Value::Bool(true) => equally(rel, 1),
-        Value::Bool(false) => equally(rel, 0),
+        Value::Bool(held) => flag_asked(rel, *held),
         _ => Asked::Never,
     }
 }
@@ -147,5 +149,26 @@ pub(crate) fn port_asked(rel: Rel, literal: &Value) -> PortAsked
         (Rel::Gt, Value::Port { number, over }) => PortAsked::Stands(Order::Gt, *number, *over),
         (Rel::Ge, Value::Port { number, over }) => PortAsked::Stands(Order::Ge, *number, *over),
         _ => PortAsked::Never,
+    }
+}
+
+/// What is asked of an index of texts.
+#[derive(Clone, Copy)]
+pub(crate) enum TextAsked {
+    Never,
+    Equal,
+    Differs,
+    Contains,
+}
+
+/// Of texts.
+pub(crate) fn text_asked(rel: Rel) -> TextAsked
+    ensures { result ≡ text_asked rel }
+{
+    match rel {
+        Rel::Eq => TextAsked::Equal,
+        Rel::Ne => TextAsked::Differs,
+        Rel::Contains => TextAsked::Contains,
+        _ => TextAsked::Never,
     }
 }

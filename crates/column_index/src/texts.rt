@@ -9,6 +9,7 @@ ghost use Rattle.column_index.specs.Columns.{AreOf, Answers, text_of, text_key};
 ghost use Rattle.column_index.specs.Kept.{TextsStand, AreAnswers, is_text};
 
 use crate::answered::nothing;
+use crate::asked::{TextAsked, text_asked};
 use crate::kept::{Bitmap, Pair, Texts};
 use bits_law::{Bits, BitsEnd};
 use query_meaning::{Rel, goes_with};
@@ -74,20 +75,20 @@ impl Texts {
             return Ok(nothing(alloc));
         }
         let text = text_of(literal);
-        match rel {
-            Rel::Eq => {
+        match text_asked(rel) {
+            TextAsked::Equal => {
                 let pair = self.equal(text)?;
                 Ok(pair)
             }
-            Rel::Ne => {
+            TextAsked::Differs => {
                 let pair = self.differs(text)?;
                 Ok(pair)
             }
-            Rel::Contains => {
+            TextAsked::Contains => {
                 let pair = self.contains(alloc, text)?;
                 Ok(pair)
             }
-            _ => Ok(nothing(alloc)),
+            TextAsked::Never => Ok(nothing(alloc)),
         }
     }
 
