@@ -1,11 +1,11 @@
 -- How an index goes on standing for a growing column, and what its answers say of the cells.
-use Rattle.std.proofs.Common.{◌≡◌, ℕ, zero, suc, ◌+◌, ◌-◌, ◌<◌, ◌≤◌, Bool, true, false, not, List, [], ◌∷◌, ◌++◌, length, get_or, map, replicate, Option, None, Some, refl, ap, sym, ◌∙◌, subst, append_assoc, append-nil, arith}
+use Rattle.std.proofs.Common.{◌≡◌, ℕ, zero, suc, ◌+◌, ◌-◌, ◌<◌, ◌≤◌, Bool, true, false, not, ◌&&◌, List, [], ◌∷◌, ◌++◌, length, get_or, map, replicate, Option, None, Some, refl, ap, sym, ◌∙◌, subst, append_assoc, append-nil, arith}
 use Rattle.std.proofs.lemmas.List.{map-append, length-append, length-replicate, length-map, replicate-append-replicate}
 use Rattle.vast_value.specs.declared.cell.Cell.{Cell}
 use Rattle.vast_value.specs.declared.kind.Kind.{Kind}
 use Rattle.bits_law.specs.Keys.{meets, padded, answers, with_gap, with_key}
 use Rattle.bits_law.specs.Bitwise.{bitwise, and_not}
-use Rattle.bits_law.proofs.AnswerLemmas.{answers-same, answers-and_not}
+use Rattle.bits_law.proofs.AnswerLemmas.{answers-same, answers-and, answers-and_not}
 use Rattle.column_index.specs.Columns.{fits_kind, AreOf, Answers, key_in, keys_of, Covers}
 
 module _ {K : Type 0} where
@@ -155,3 +155,38 @@ never_met key bits cells e = none_answers bits cells e ∙ answers-same (λ _. f
 pub others_answers : {K : Type 0} (p : K → Bool) (held : List (Option K)) (set rows others : List Bool) → others ≡ bitwise and_not set rows → set ≡ answers (λ _. true) held → rows ≡ answers p held → others ≡ answers (λ k. not (p k)) held
 others_answers p held set rows others e f g =
     e ∙ ap (λ (bits : List Bool). bitwise and_not bits rows) f ∙ ap (bitwise and_not (answers (λ _. true) held)) g ∙ answers-and_not (λ _. true) p held
+
+-- answers joined bit by bit
+pub everywhere : (bits : List Bool) (p q : Cell → Bool) (cells : List (Option Cell)) → ((x : Cell) → p x ≡ q x) → Answers bits p cells → Answers bits q cells
+everywhere bits p q cells f e = e ∙ answers-same p q cells (λ row x l g. f x)
+
+padded_bitwise : (f : Bool → Bool → Bool) (a b : List Bool) (n : ℕ) → f false false ≡ false → length a ≡ length b → padded false (bitwise f a b) n ≡ bitwise f (padded false a n) (padded false b n)
+padded_bitwise f a b n z e =
+    ap (λ (k : ℕ). bitwise f a b ++ replicate (n - k) false) (same_length f a b e)
+    ∙ joined f a b (n - length a) z e
+    ∙ ap (λ (k : ℕ). bitwise f (padded false a n) (b ++ replicate (n - k) false)) e
+  where
+    same_length : (f : Bool → Bool → Bool) (a b : List Bool) → length a ≡ length b → length (bitwise f a b) ≡ length a
+    same_length f [] b e = refl
+    same_length f (x ∷ a) [] e = absurd (omega (arith, e))
+    same_length f (x ∷ a) (y ∷ b) e = ap suc (same_length f a b (omega (arith, e)))
+
+    zeros : (f : Bool → Bool → Bool) (n : ℕ) → f false false ≡ false → replicate n false ≡ bitwise f (replicate n false) (replicate n false)
+    zeros f zero z = refl
+    zeros f (suc n) z = ap (λ (b : Bool). b ∷ replicate n false) (sym z) ∙ ap (λ (bits : List Bool). f false false ∷ bits) (zeros f n z)
+
+    joined : (f : Bool → Bool → Bool) (a b : List Bool) (n : ℕ) → f false false ≡ false → length a ≡ length b → bitwise f a b ++ replicate n false ≡ bitwise f (a ++ replicate n false) (b ++ replicate n false)
+    joined f [] [] n z e = zeros f n z
+    joined f [] (y ∷ b) n z e = absurd (omega (arith, e))
+    joined f (x ∷ a) [] n z e = absurd (omega (arith, e))
+    joined f (x ∷ a) (y ∷ b) n z e = ap (λ (bits : List Bool). f x y ∷ bits) (joined f a b n z (omega (arith, e)))
+
+pub both_answers : (a b bits : List Bool) (p q : Cell → Bool) (cells : List (Option Cell)) → bits ≡ bitwise ◌&&◌ a b → length a ≡ length b → Answers a p cells → Answers b q cells → Answers bits (λ x. p x && q x) cells
+both_answers a b bits p q cells e l f g =
+    ap (λ (xs : List Bool). padded false xs (length cells)) e ∙ padded_bitwise ◌&&◌ a b (length cells) refl l
+    ∙ ap (λ (xs : List Bool). bitwise ◌&&◌ xs (padded false b (length cells))) f ∙ ap (bitwise ◌&&◌ (answers p cells)) g ∙ answers-and p q cells
+
+pub without_answers : (a b bits : List Bool) (p q : Cell → Bool) (cells : List (Option Cell)) → bits ≡ bitwise and_not a b → length a ≡ length b → Answers a p cells → Answers b q cells → Answers bits (λ x. p x && not (q x)) cells
+without_answers a b bits p q cells e l f g =
+    ap (λ (xs : List Bool). padded false xs (length cells)) e ∙ padded_bitwise and_not a b (length cells) refl l
+    ∙ ap (λ (xs : List Bool). bitwise and_not xs (padded false b (length cells))) f ∙ ap (bitwise and_not (answers p cells)) g ∙ answers-and_not p q cells

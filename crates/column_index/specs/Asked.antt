@@ -139,3 +139,7 @@ text_asked Eq = text.Equal
 text_asked Ne = text.Differs
 text_asked Contains = text.Contains
 text_asked _ = text.Never
+
+abbrev pub is_contains : Rel → Bool
+is_contains Contains = true
+is_contains _ = false

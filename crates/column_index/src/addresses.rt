@@ -42,7 +42,7 @@ impl Addresses {
     pub(crate) fn put(&mut self, row: u64, value: &Value) -> Result<(), BitsEnd>
         requires { length self.old.index.table.present ≤ row }
         ensures stands { OnOk result ((cells : List (Option Cell)) → length cells ≤ row → AddressesStand self.old cells → AddressesStand self.new (with_key cells row (One value.now))) }
-        ensures rows { OnOk result (length self.new.index.table.present ≡ row + 1) }
+        ensures rows { length self.new.index.table.present ≤ row + 1 }
     {
         let key = address_of(value);
         self.index.put(row, key)?;

@@ -1,7 +1,7 @@
 //! What is asked of an index of numbers.
 ghost use Rattle.std.specs.Prelude.{◌≡◌, IsTrue};
 ghost use Rattle.vast_value.specs.declared.value.Value.TheVariants as value;
-ghost use Rattle.column_index.specs.Asked.{address_asked, exactly, flags_asked, is_below, maybe_so, port_asked, subnet_asked, surely, text_asked};
+ghost use Rattle.column_index.specs.Asked.{address_asked, exactly, flags_asked, is_below, is_contains, maybe_so, port_asked, subnet_asked, surely, text_asked};
 
 use bits_law::Order;
 use query_meaning::Rel;
@@ -171,4 +171,11 @@ pub(crate) fn text_asked(rel: Rel) -> TextAsked
         Rel::Contains => TextAsked::Contains,
         _ => TextAsked::Never,
     }
+}
+
+/// Whether the relation is `ni`.
+pub(crate) fn is_contains(rel: Rel) -> bool
+    ensures { result ≡ is_contains rel }
+{
+    matches!(rel, Rel::Contains)
 }

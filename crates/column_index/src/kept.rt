@@ -1,11 +1,12 @@
 //! What a column keeps of its cells, by their kind.
-ghost use Rattle.std.specs.Prelude.{◌≡◌, [], ◌∷◌, length};
+ghost use Rattle.std.specs.Prelude.{◌≡◌, [], ◌∷◌};
 ghost use Rattle.digit_index.specs.declared.coding.Coding.TheVariants.{Equality, Range};
 
 use address_index::{AddrIndex, NetIndex};
 use digit_index::DigitIndex;
 use set_index::SetIndex;
 use slice_index::SliceIndex;
+use std::alloc::Global;
 use string_index::StringIndex;
 use word_bitmap::WordBitmap;
 
@@ -43,7 +44,6 @@ pub(crate) struct Ports {
     ghost bases: { numbers.bases ≡ 256 ∷ 256 ∷ [] },
     ghost transport_coding: { transports.coding ≡ Equality },
     ghost transport_bases: { transports.bases ≡ 4 ∷ [] },
-    ghost even: { length transports.table.present ≡ length numbers.table.present },
 }
 
 /// Of addresses.
@@ -56,6 +56,7 @@ pub(crate) struct Addresses {
 #[derive(Drop)]
 pub(crate) struct Subnets {
     pub(crate) index: NetIndex<Bitmap>,
+    pub(crate) alloc: Global,
 }
 
 /// Of strings and enums: their length and their first eight bytes.
@@ -68,4 +69,16 @@ pub(crate) struct Texts {
 #[derive(Drop)]
 pub(crate) struct Buckets {
     pub(crate) index: SetIndex<Bitmap>,
+}
+
+/// What a column keeps of its set cells.
+#[derive(Drop)]
+pub(crate) enum Keys {
+    Flags(Flags),
+    Numbers(Numbers),
+    Ports(Ports),
+    Addresses(Addresses),
+    Subnets(Subnets),
+    Texts(Texts),
+    Buckets(Buckets),
 }

@@ -4,9 +4,11 @@
 mod addresses;
 mod answered;
 mod asked;
+mod buckets;
 mod flags;
 mod kept;
 mod numbers;
+mod ports;
 mod subnets;
 mod texts;
 

@@ -37,17 +37,18 @@ impl Subnets {
     {
         Ok(Subnets {
             index: NetIndex::new(alloc)?,
+            alloc,
         })
     }
 
     /// Puts a value at `row`.
-    pub(crate) fn put(&mut self, alloc: Global, row: u64, value: &Value) -> Result<(), BitsEnd>
+    pub(crate) fn put(&mut self, row: u64, value: &Value) -> Result<(), BitsEnd>
         requires { length self.old.index.lengths.present ≤ row }
         ensures stands { OnOk result ((cells : List (Option Cell)) → length cells ≤ row → SubnetsStand self.old cells → SubnetsStand self.new (with_key cells row (One value.now))) }
-        ensures rows { OnOk result (length self.new.index.lengths.present ≡ row + 1) }
+        ensures rows { length self.new.index.lengths.present ≤ row + 1 }
     {
         let net = subnet_of(value);
-        let index = mem::replace(&mut self.index, NetIndex::new(alloc)?);
+        let index = mem::replace(&mut self.index, NetIndex::new(self.alloc)?);
         self.index = index.add(row, net.base, net.bits)?;
         Ok(())
     }
@@ -58,10 +59,10 @@ impl Subnets {
         ensures stands { IfOk result (λ n. (cells more : List (Option Cell)) → length cells ≡ rows → SubnetsStand self cells → SubnetsStand other.now more → SubnetsStand n (cells ++ more)) }
         ensures rows { IfOk result (λ n. length n.index.lengths.present ≡ rows + length other.now.index.lengths.present) }
     {
-        let Subnets { index } = self;
+        let Subnets { index, alloc } = self;
         let index = index.pad(rows)?;
         let index = index.append(&other.index)?;
-        Ok(Subnets { index })
+        Ok(Subnets { index, alloc })
     }
 
     /// The rows where a relation to the literal surely holds and may hold.

@@ -41,7 +41,7 @@ impl Texts {
     pub(crate) fn put(&mut self, row: u64, value: &Value) -> Result<(), BitsEnd>
         requires { length self.old.index.table.present ≤ row }
         ensures stands { OnOk result ((cells : List (Option Cell)) → length cells ≤ row → TextsStand self.old cells → TextsStand self.new (with_key cells row (One value.now))) }
-        ensures rows { OnOk result (length self.new.index.table.present ≡ row + 1) }
+        ensures rows { length self.new.index.table.present ≤ row + 1 }
     {
         let key = text_of(value);
         self.index.put(row, key)?;
