@@ -1,5 +1,5 @@
 -- What is asked of bools, addresses, subnets and ports is the relation to the literal.
-use Rattle.std.proofs.Common.{◌≡◌, ℕ, ◌+◌, ◌-◌, ◌/◌, ◌^◌, ◌≤◌, Bool, true, false, not, cond, eqb, ltb, leb, ◌==◌, ◌&&◌, ◌||◌, Option, Some, None, refl, ap, sym, ◌∙◌, arith}
+use Rattle.std.proofs.Common.{◌≡◌, ℕ, ◌-◌, ◌/◌, ◌^◌, Bool, true, false, not, cond, eqb, ltb, leb, ◌==◌, ◌&&◌, ◌||◌, Some, None, refl, ap, sym, ◌∙◌, arith}
 use Rattle.std.specs.Ordering.{nat_cmp}
 use Rattle.std.proofs.lemmas.Bool.{le-leb}
 use Rattle.std.proofs.lemmas.Bool.Decides.{nat_tests}
@@ -15,14 +15,14 @@ use Rattle.vast_value.specs.declared.value.Value.TheVariants as value
 use Rattle.vast_value.specs.Kinds.{elem_of}
 use Rattle.vast_value.specs.Ports.{transport_code}
 use Rattle.address_index.specs.Addresses.{within}
-use Rattle.address_index.specs.Subnets.{subnet, is_net, net_within, net_covers}
+use Rattle.address_index.specs.Subnets.{subnet, is_net, net_covers}
 use Rattle.bits_law.specs.Keys.{meets}
 use Rattle.query_meaning.specs.declared.expr.Rel.{Rel}
 use Rattle.query_meaning.specs.declared.expr.Rel.TheVariants.{Eq, Ne, Lt, Le, Gt, Ge, Within, Contains}
 use Rattle.query_meaning.specs.declared.expr.Literal.{Literal}
 use Rattle.query_meaning.specs.declared.expr.Literal.TheVariants.{Of}
 use Rattle.query_meaning.specs.Agreement.{is_ordered, may_have}
-use Rattle.query_meaning.specs.Relations.{goes_with, holds_address, holds_net, is_less, is_greater, is_equal, takes_transport, value_meets}
+use Rattle.query_meaning.specs.Relations.{goes_with, holds_address, is_less, is_greater, is_equal, takes_transport, value_meets}
 use Rattle.query_meaning.specs.SureCells.{sure_cell, maybe_cell}
 use Rattle.query_meaning.proofs.AgreementLemmas.{unrelated}
 use Rattle.column_index.specs.Asked.{asked_test, flags_asked, address_asked, address_test, subnet_asked, subnet_test, port_asked, port_test, cell_port_test, transport_test}

@@ -1,5 +1,5 @@
 -- How an index goes on standing for a growing column, and what its answers say of the cells.
-use Rattle.std.proofs.Common.{◌≡◌, ℕ, zero, suc, ◌+◌, ◌-◌, ◌<◌, ◌≤◌, Bool, true, false, not, ◌&&◌, List, [], ◌∷◌, ◌++◌, length, get_or, map, replicate, Option, None, Some, refl, ap, sym, ◌∙◌, subst, append_assoc, append-nil, arith}
+use Rattle.std.proofs.Common.{◌≡◌, ℕ, zero, suc, ◌+◌, ◌-◌, ◌≤◌, Bool, true, false, not, ◌&&◌, List, [], ◌∷◌, ◌++◌, length, map, replicate, Option, None, Some, refl, ap, sym, ◌∙◌, subst, append_assoc, append-nil, arith}
 use Rattle.std.proofs.lemmas.List.{map-append, length-append, length-replicate, length-map, replicate-append-replicate}
 use Rattle.vast_value.specs.declared.cell.Cell.{Cell}
 use Rattle.vast_value.specs.declared.kind.Kind.{Kind}
@@ -14,7 +14,7 @@ module _ {K : Type 0} where
   missing t (suc n) = ap (λ (bits : List Bool). false ∷ bits) (missing t n)
 
   -- a gap is answered false
-  gap_answers : (t : K → Bool) (held : List (Option K)) (n : ℕ) → answers t (with_gap held n) ≡ padded false (answers t held) n
+  pub gap_answers : (t : K → Bool) (held : List (Option K)) (n : ℕ) → answers t (with_gap held n) ≡ padded false (answers t held) n
   gap_answers t held n =
       map-append (meets t) held (replicate (n - length held) None)
       ∙ ap (λ (bits : List Bool). answers t held ++ bits) (missing t (n - length held))
@@ -52,10 +52,10 @@ module _ {K : Type 0} where
   covers_more H keys n c =
       let long : length (keys ++ replicate n None) ≡ length keys + n = length-append keys (replicate n None) ∙ ap (λ (k : ℕ). length keys + k) (length-replicate n None) in
       record {
-    held = c.held;
-    holds = c.holds;
-    rest = ap (λ (k : ℕ). with_gap c.held k) long ∙ gap_more c.held keys n c.rest;
-  }
+        held = c.held;
+        holds = c.holds;
+        rest = ap (λ (k : ℕ). with_gap c.held k) long ∙ gap_more c.held keys n c.rest;
+      }
 
   pub keys_gap : (key : Cell → Option K) (cells : List (Option Cell)) (n : ℕ) → keys_of key (cells ++ replicate n None) ≡ keys_of key cells ++ replicate n None
   keys_gap key cells n = map-append (key_in key) cells (replicate n None) ∙ ap (λ (xs : List (Option K)). keys_of key cells ++ xs) (none n)
@@ -91,10 +91,10 @@ module _ {K : Type 0} where
       ∙ ap (λ (o : Option K). keys_of key (with_gap cells row) ++ o ∷ []) (sym e)
       ∙ sym (map-append (key_in key) (with_gap cells row) (Some x ∷ [])) in
       record {
-    held = with_key c.held row k;
-    holds = f c.held c.holds;
-    rest = whole (with_key c.held row k) (keys_of key (with_key cells row x)) is;
-  }
+        held = with_key c.held row k;
+        holds = f c.held c.holds;
+        rest = whole (with_key c.held row k) (keys_of key (with_key cells row x)) is;
+      }
     where
       whole : (xs ys : List (Option K)) → xs ≡ ys → with_gap xs (length ys) ≡ ys
       whole xs ys e =
@@ -113,14 +113,14 @@ module _ {K : Type 0} where
       let long : length (keys_of key (cells ++ more)) - length (keys ++ d.held) ≡ length behind - length d.held =
       omega (arith, ap length parts, length-append keys behind, length-append keys d.held) in
       record {
-    held = with_gap c.held (length cells) ++ d.held;
-    holds = f c.held d.held c.holds d.holds;
-    rest = ap (λ (xs : List (Option K)). with_gap (xs ++ d.held) (length (keys_of key (cells ++ more)))) front
-    ∙ ap (λ (n : ℕ). (keys ++ d.held) ++ replicate n None) long
-    ∙ append_assoc keys d.held (replicate (length behind - length d.held) None)
-    ∙ ap (λ (xs : List (Option K)). keys ++ xs) d.rest
-    ∙ sym parts;
-  }
+        held = with_gap c.held (length cells) ++ d.held;
+        holds = f c.held d.held c.holds d.holds;
+        rest = ap (λ (xs : List (Option K)). with_gap (xs ++ d.held) (length (keys_of key (cells ++ more)))) front
+            ∙ ap (λ (n : ℕ). (keys ++ d.held) ++ replicate n None) long
+            ∙ append_assoc keys d.held (replicate (length behind - length d.held) None)
+            ∙ ap (λ (xs : List (Option K)). keys ++ xs) d.rest
+            ∙ sym parts;
+      }
 
   pub covers_none : (H : List (Option K) → Type 0) → H [] → Covers H []
   covers_none H h = record { held = []; holds = h; rest = refl }

@@ -1,5 +1,5 @@
 -- Relations that the table doesn't have for the kinds of a literal and a cell are neither sure nor may they be.
-use Rattle.std.proofs.Common.{◌≡◌, Bool, true, false, ◌&&◌, ◌||◌, refl, sym, ◌∙◌, ap}
+use Rattle.std.proofs.Common.{◌≡◌, Bool, true, false, ◌||◌, refl, ◌∙◌, ap}
 use Rattle.std.proofs.lemmas.Bool.{and_parts, and_right}
 use Rattle.vast_value.specs.declared.kind.Elem.{Elem}
 use Rattle.vast_value.specs.declared.kind.Elem.TheVariants as elem
@@ -8,8 +8,8 @@ use Rattle.vast_value.specs.declared.cell.Cell.{Cell}
 use Rattle.vast_value.specs.declared.cell.Cell.TheVariants as cell
 use Rattle.vast_value.specs.declared.value.Value.{Value}
 use Rattle.vast_value.specs.declared.value.Value.TheVariants as value
-use Rattle.vast_value.specs.Kinds.{elem_of, elem_eq, has_kind}
-use Rattle.vast_value.specs.Fit.{is_ranged, is_ranged_cell}
+use Rattle.vast_value.specs.Kinds.{elem_of, elem_eq}
+use Rattle.vast_value.specs.Fit.{is_ranged}
 use Rattle.vast_value.proofs.KindLemmas.{elem_is}
 use Rattle.query_meaning.specs.declared.expr.Rel.{Rel}
 use Rattle.query_meaning.specs.declared.expr.Rel.TheVariants.{Eq, Ne, Lt, Le, Gt, Ge, Within, Contains}

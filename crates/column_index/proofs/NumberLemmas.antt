@@ -1,14 +1,13 @@
 -- The answers of numbers are the relations of the values that they stand for.
-use Rattle.std.proofs.Common.{◌≡◌, ℕ, ℤ, pos, negsuc, ◌+◌, ◌-◌, ◌/◌, ◌^◌, ◌<◌, ◌≤◌, Bool, true, false, not, cond, eqb, ltb, leb, ◌==◌, ◌&&◌, ◌||◌, Option, Some, None, refl, ap, sym, ◌∙◌, arith}
+use Rattle.std.proofs.Common.{◌≡◌, ℕ, ℤ, pos, negsuc, ◌/◌, ◌^◌, Bool, true, false, not, eqb, ltb, leb, ◌==◌, ◌&&◌, ◌||◌, Some, refl, ap, sym, ◌∙◌, arith}
 use Rattle.std.specs.Prelude.{int_lt, int_le}
-use Rattle.std.specs.Ordering.{int_eq, int_cmp, nat_cmp, is_eq}
-use Rattle.std.proofs.lemmas.Bool.{ltb-true, lt-ltb, eqb-true, leb-true}
+use Rattle.std.specs.Ordering.{int_eq, int_cmp, nat_cmp}
+use Rattle.std.proofs.lemmas.Bool.{ltb-true, lt-ltb}
 use Rattle.std.proofs.lemmas.Bool.Decides.{nat_tests}
 use Rattle.vast_value.specs.declared.kind.Elem.{Elem}
 use Rattle.vast_value.specs.declared.kind.Elem.TheVariants as elem
 use Rattle.vast_value.specs.declared.kind.Kind.TheVariants as kind
 use Rattle.vast_value.specs.declared.cell.Cell.{Cell}
-use Rattle.vast_value.specs.declared.cell.Cell.TheVariants as cell
 use Rattle.vast_value.specs.declared.value.Value.{Value}
 use Rattle.vast_value.specs.declared.value.Value.TheVariants as value
 use Rattle.vast_value.specs.Kinds.{elem_of, elem_eq}
@@ -20,7 +19,7 @@ use Rattle.query_meaning.specs.Relations.{goes_with, is_less, is_greater, is_equ
 use Rattle.query_meaning.specs.SureCells.{sure_cell, maybe_cell, sure_value, maybe_value, sure_time, maybe_time, seconds}
 use Rattle.query_meaning.proofs.SureLemmas.{less_is, greater_is, by_equal}
 use Rattle.bits_law.specs.Keys.{meets}
-use Rattle.column_index.specs.Asked.{asked_test, exactly, equally, surely, maybe_so}
+use Rattle.column_index.specs.Asked.{asked_test, exactly, surely, maybe_so}
 use Rattle.column_index.specs.Columns.{fits_kind, biased, has_i64, number_of, number_key}
 use Rattle.column_index.specs.Kept.{is_number}
 use Rattle.column_index.specs.declared.asked.Asked.{Asked}

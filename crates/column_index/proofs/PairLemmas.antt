@@ -1,5 +1,5 @@
 -- Pairs of bitmaps that answer a relation to a literal.
-use Rattle.std.proofs.Common.{◌≡◌, Bool, true, List, [], Option, sym, ap, ◌∙◌, subst}
+use Rattle.std.proofs.Common.{◌≡◌, Bool, true, List, [], Option, sym, subst}
 use Rattle.vast_value.specs.declared.cell.Cell.{Cell}
 use Rattle.vast_value.specs.declared.kind.Kind.{Kind}
 use Rattle.vast_value.specs.declared.value.Value.{Value}

@@ -1,5 +1,5 @@
 -- What the two indexes of ports tell together.
-use Rattle.std.proofs.Common.{◌≡◌, ℕ, Bool, true, false, not, eqb, ◌&&◌, Option, Some, None, refl, ap, sym, ◌∙◌}
+use Rattle.std.proofs.Common.{◌≡◌, ℕ, Bool, true, false, not, eqb, ◌&&◌, refl, ap, sym, ◌∙◌}
 use Rattle.vast_value.specs.declared.transport.Transport.{Transport}
 use Rattle.vast_value.specs.declared.transport.Transport.TheVariants.{Unknown, Tcp, Udp, Icmp}
 use Rattle.vast_value.specs.declared.cell.Cell.{Cell}

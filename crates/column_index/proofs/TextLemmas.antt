@@ -1,8 +1,8 @@
 -- What a string index answers is what is sure, and what may be, of texts.
-use Rattle.std.proofs.Common.{◌≡◌, ℕ, zero, suc, ◌+◌, ◌<◌, ◌≤◌, min, Bool, true, false, not, eqb, leb, ◌&&◌, List, [], ◌∷◌, length, get_or, take, Option, Some, None, refl, ap, sym, ◌∙◌, inl, inr, arith}
+use Rattle.std.proofs.Common.{◌≡◌, ℕ, zero, suc, ◌<◌, min, Bool, true, false, not, eqb, leb, ◌&&◌, List, [], ◌∷◌, length, get_or, take, refl, ap, sym, ◌∙◌, inl, inr, arith}
 use Rattle.std.specs.Str.{bytes_eq}
-use Rattle.std.proofs.lemmas.Bool.{and_parts, and_from, eqb-true, eq-eqb, cases_Bool, false_from_ne_true, cases_lt, lt-leb}
-use Rattle.std.proofs.lemmas.List.{ext_get_or, get_or-take, length-take, get_or_past}
+use Rattle.std.proofs.lemmas.Bool.{and_parts, and_from, eqb-true, eq-eqb, false_from_ne_true, cases_lt, lt-leb}
+use Rattle.std.proofs.lemmas.List.{ext_get_or, get_or-take, length-take}
 use Rattle.std.proofs.lemmas.Slice.Eq.{bytes_eq-Decides}
 use Rattle.vast_value.specs.declared.kind.Elem.{Elem}
 use Rattle.vast_value.specs.declared.kind.Elem.TheVariants as elem
@@ -16,7 +16,7 @@ use Rattle.vast_value.specs.Layouts.{is_empty}
 use Rattle.bits_law.specs.Keys.{meets}
 use Rattle.string_index.specs.Texts.{agree, same_start, short_length}
 use Rattle.query_meaning.specs.declared.expr.Rel.{Rel}
-use Rattle.query_meaning.specs.declared.expr.Rel.TheVariants.{Eq, Ne, Lt, Le, Gt, Ge, Within, Contains}
+use Rattle.query_meaning.specs.declared.expr.Rel.TheVariants.{Eq, Ne, Contains}
 use Rattle.query_meaning.specs.declared.expr.Literal.{Literal}
 use Rattle.query_meaning.specs.declared.expr.Literal.TheVariants.{Of}
 use Rattle.query_meaning.specs.Relations.{goes_with}
@@ -59,8 +59,8 @@ start_front key literal h =
     let fronts : take 8 literal ≡ take 8 key = ext_get_or 0 (take 8 literal) (take 8 key)
     (omega (arith, lengths, length-take 8 literal, length-take 8 key))
     (λ k l.
-      let near : k < 8 = omega (arith, l, length-take 8 literal) in
-      get_or-take 8 literal k 0 near ∙ sym (agree_at 8 key literal parts.1 k near) ∙ sym (get_or-take 8 key k 0 near)) in
+    let near : k < 8 = omega (arith, l, length-take 8 literal) in
+    get_or-take 8 literal k 0 near ∙ sym (agree_at 8 key literal parts.1 k near) ∙ sym (get_or-take 8 key k 0 near)) in
     and_from (eqb (known_length literal) (known_length key)) (bytes_eq (take 8 literal) (take 8 key)) (eq-eqb (known_length literal) (known_length key) (sym lengths)) ((bytes_eq-Decides (take 8 literal) (take 8 key)).1 fronts)
 
 front_start : (key literal : List ℕ) → same_front literal key ≡ true → same_start key literal ≡ true

@@ -9,8 +9,8 @@ ghost use Rattle.column_index.specs.Asked.{asked_test, is_below};
 ghost use Rattle.column_index.specs.Columns.{AreOf, Answers, flag_of, flag_key};
 ghost use Rattle.column_index.specs.Kept.{FlagsStand, AreAnswers};
 
-use crate::asked::{Asked, flags_asked};
 use crate::answered::exact;
+use crate::asked::{Asked, flags_asked};
 use crate::kept::{Bitmap, Flags, Pair};
 use bits_law::{Bits, BitsEnd};
 use digit_index::{Bases, Coding, DigitIndex};
@@ -64,12 +64,7 @@ impl Flags {
     }
 
     /// The rows where a relation to the literal surely holds and may hold.
-    pub(crate) fn ask(
-        &self,
-        alloc: Global,
-        rel: Rel,
-        literal: &Value,
-    ) -> Result<Pair, AllocError>
+    pub(crate) fn ask(&self, alloc: Global, rel: Rel, literal: &Value) -> Result<Pair, AllocError>
         ensures { IfOk result (λ pair. (cells : List (Option Cell)) → AreOf (kind.One elem.Bool) cells → FlagsStand self.now cells → AreAnswers pair rel literal.now cells) }
     {
         let rows = self.rows(alloc, flags_asked(rel, literal))?;

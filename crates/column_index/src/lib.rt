@@ -4,12 +4,17 @@
 mod addresses;
 mod answered;
 mod asked;
+mod asking;
 mod buckets;
+mod column;
 mod flags;
+mod growing;
 mod kept;
+mod keys;
 mod numbers;
 mod ports;
 mod subnets;
 mod texts;
 
+pub use column::ColumnIndex;
 pub use kept::{Bitmap, Pair};

@@ -8,8 +8,8 @@ ghost use Rattle.column_index.specs.Asked.{asked_test};
 ghost use Rattle.column_index.specs.Columns.{AreOf, Answers, has_i64, number_of, number_key};
 ghost use Rattle.column_index.specs.Kept.{NumbersStand, AreAnswers, is_number};
 
-use crate::asked::{Asked, exactly, maybe_so, surely};
 use crate::answered::{exact, nothing};
+use crate::asked::{Asked, exactly, maybe_so, surely};
 use crate::kept::{Bitmap, Numbers, Pair};
 use bits_law::{Bits, BitsEnd};
 use query_meaning::{Rel, goes_with, seconds};

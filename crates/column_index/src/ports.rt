@@ -141,12 +141,7 @@ impl Ports {
     }
 
     /// The rows where a relation to the literal surely holds and may hold.
-    pub(crate) fn ask(
-        &self,
-        alloc: Global,
-        rel: Rel,
-        literal: &Value,
-    ) -> Result<Pair, AllocError>
+    pub(crate) fn ask(&self, alloc: Global, rel: Rel, literal: &Value) -> Result<Pair, AllocError>
         ensures { IfOk result (λ pair. (cells : List (Option Cell)) → AreOf (kind.One elem.Port) cells → PortsStand self.now cells → AreAnswers pair rel literal.now cells) }
     {
         let rows = self.rows(alloc, port_asked(rel, literal))?;

@@ -12,7 +12,7 @@ ghost use Rattle.column_index.specs.Kept.{SubnetsStand, AreAnswers};
 
 use crate::answered::exact;
 use crate::asked::{SubnetAsked, subnet_asked};
-use crate::kept::{Subnets, Bitmap, Pair};
+use crate::kept::{Bitmap, Pair, Subnets};
 use address_index::NetIndex;
 use bits_law::{Bits, BitsEnd};
 use query_meaning::Rel;
@@ -66,12 +66,7 @@ impl Subnets {
     }
 
     /// The rows where a relation to the literal surely holds and may hold.
-    pub(crate) fn ask(
-        &self,
-        alloc: Global,
-        rel: Rel,
-        literal: &Value,
-    ) -> Result<Pair, AllocError>
+    pub(crate) fn ask(&self, alloc: Global, rel: Rel, literal: &Value) -> Result<Pair, AllocError>
         ensures { IfOk result (λ pair. (cells : List (Option Cell)) → AreOf (kind.One elem.Subnet) cells → SubnetsStand self.now cells → AreAnswers pair rel literal.now cells) }
     {
         let rows = self.rows(alloc, subnet_asked(rel, literal))?;

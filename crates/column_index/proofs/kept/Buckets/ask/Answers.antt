@@ -1,4 +1,4 @@
-use Rattle.std.proofs.Common.{◌≡◌, ℕ, Bool, true, false, List, [], ap, sym, ◌∙◌}
+use Rattle.std.proofs.Common.{◌≡◌, ℕ, true, false, ap, sym, ◌∙◌}
 use Rattle.vast_value.specs.declared.kind.Elem.{Elem}
 use Rattle.vast_value.specs.declared.kind.Kind.TheVariants as kind
 use Rattle.vast_value.specs.Kinds.{elem_of}
@@ -33,6 +33,6 @@ returns c =
     λ cells are s. record {
       sure = none_answered c.empty-sure.result (sure_cell c.args.rel (Of c.args.literal.now)) (kind.SetOf c.args.elem) cells c.empty-sure.ensures are (never_sure c.args.rel c.args.literal.now c.args.elem);
       maybe = answered c.in_ok-maybe.maybe (λ x. meets (takes c.bucket-bucket.result) (bucket_key x)) (maybe_cell c.args.rel (Of c.args.literal.now)) (kind.SetOf c.args.elem) cells are
-      (λ x h. ap (λ (b : ℕ). meets (takes b) (bucket_key x)) c.bucket-bucket.ensures.value ∙ bucket_maybe c.args.rel c.args.literal.now c.args.elem contains goes x h)
-      (covers_answers (Holds c.args.self.now.index.table) bucket_key (takes c.bucket-bucket.result) c.in_ok-maybe.maybe cells s c.in_ok-maybe.ensures.keys);
+          (λ x h. ap (λ (b : ℕ). meets (takes b) (bucket_key x)) c.bucket-bucket.ensures.value ∙ bucket_maybe c.args.rel c.args.literal.now c.args.elem contains goes x h)
+          (covers_answers (Holds c.args.self.now.index.table) bucket_key (takes c.bucket-bucket.result) c.in_ok-maybe.maybe cells s c.in_ok-maybe.ensures.keys);
     }

@@ -1,4 +1,4 @@
-use Rattle.std.proofs.Common.{◌≡◌, ℕ, List, Some, ap, sym}
+use Rattle.std.proofs.Common.{ℕ, Some, ap, sym}
 use Rattle.vast_value.specs.declared.cell.Cell.TheVariants.{Many}
 use Rattle.set_index.specs.Buckets.{Holds}
 use Rattle.column_index.specs.Columns.{bucket_key}

@@ -1,4 +1,4 @@
-use Rattle.std.proofs.Common.{◌≡◌, ℕ, List, Some, ap, sym}
+use Rattle.std.proofs.Common.{ℕ, Some, ap, sym}
 use Rattle.vast_value.specs.declared.cell.Cell.TheVariants.{One}
 use Rattle.digit_index.specs.Digits.{Holds}
 use Rattle.column_index.specs.Columns.{flag_key}

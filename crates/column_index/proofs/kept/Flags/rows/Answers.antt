@@ -1,5 +1,4 @@
-use Rattle.std.proofs.Common.{◌≡◌, ℕ, Bool, true, false, not, eqb, leb, min, ◌&&◌, List, length, ap, sym, ◌∙◌}
-use Rattle.vast_value.specs.declared.cell.Cell.{Cell}
+use Rattle.std.proofs.Common.{true}
 use Rattle.bits_law.specs.Numbers.{holds}
 use Rattle.digit_index.specs.Digits.{Holds}
 use Rattle.column_index.specs.Columns.{flag_key}

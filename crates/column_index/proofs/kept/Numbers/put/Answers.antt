@@ -1,5 +1,5 @@
-use Rattle.std.proofs.Common.{◌≡◌, Some, ap, sym, ◌∙◌}
-use Rattle.std.specs.Prelude.{Option, ℕ}
+use Rattle.std.proofs.Common.{Some, ap, sym}
+use Rattle.std.specs.Prelude.{ℕ}
 use Rattle.vast_value.specs.declared.cell.Cell.TheVariants.{One}
 use Rattle.slice_index.specs.Slices.{Holds}
 use Rattle.column_index.specs.Columns.{number_key}

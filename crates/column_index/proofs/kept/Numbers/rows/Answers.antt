@@ -1,12 +1,8 @@
-use Rattle.std.proofs.Common.{◌≡◌, ℕ, Bool, true, false, List, None, Some, Option, refl, ap, sym, ◌∙◌}
-use Rattle.vast_value.specs.declared.cell.Cell.{Cell}
-use Rattle.bits_law.specs.Keys.{meets}
-use Rattle.bits_law.proofs.AnswerLemmas.{answers-same}
+use Rattle.std.proofs.Common.{true}
 use Rattle.bits_law.specs.Numbers.{holds}
 use Rattle.slice_index.specs.Slices.{Holds}
-use Rattle.column_index.specs.Asked.{asked_test}
-use Rattle.column_index.specs.Columns.{number_key, Answers}
-use Rattle.column_index.proofs.CoverLemmas.{covers_answers, none_answers, never_met}
+use Rattle.column_index.specs.Columns.{number_key}
+use Rattle.column_index.proofs.CoverLemmas.{covers_answers, never_met}
 use Rattle.column_index.proofs.kept.Numbers.rows.Goals as goal
 
 pub returns-in-Never : goal.returns-in-Never

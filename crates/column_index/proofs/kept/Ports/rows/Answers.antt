@@ -1,4 +1,4 @@
-use Rattle.std.proofs.Common.{◌≡◌, ℕ, Bool, true, false, not, ◌&&◌}
+use Rattle.std.proofs.Common.{true, false, not, ◌&&◌}
 use Rattle.bits_law.specs.Keys.{meets}
 use Rattle.bits_law.specs.declared.slices.Order.TheVariants as order
 use Rattle.digit_index.specs.Digits.{Holds}

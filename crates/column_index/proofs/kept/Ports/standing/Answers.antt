@@ -1,5 +1,4 @@
-use Rattle.std.proofs.Common.{◌≡◌, ℕ, Bool, true, false, eqb, ◌&&◌, sym, ◌∙◌}
-use Rattle.vast_value.specs.declared.transport.Transport.TheVariants.{Unknown}
+use Rattle.std.proofs.Common.{eqb, ◌&&◌, sym, ◌∙◌}
 use Rattle.bits_law.specs.Keys.{meets}
 use Rattle.bits_law.specs.Numbers.{holds}
 use Rattle.digit_index.specs.Digits.{Holds}

@@ -1,4 +1,4 @@
-use Rattle.std.proofs.Common.{◌≡◌, Some, ap, sym}
+use Rattle.std.proofs.Common.{Some, ap, sym}
 use Rattle.vast_value.specs.declared.cell.Cell.TheVariants.{One}
 use Rattle.address_index.specs.Subnets.{HoldsNets, Subnet, subnet}
 use Rattle.column_index.specs.Columns.{subnet_key}

@@ -1,5 +1,4 @@
-use Rattle.std.proofs.Common.{◌≡◌, ℕ, Bool, true, false, not, eqb, leb, min, ◌&&◌, List, length, ap, sym, ◌∙◌}
-use Rattle.vast_value.specs.declared.cell.Cell.{Cell}
+use Rattle.std.proofs.Common.{not}
 use Rattle.address_index.specs.Subnets.{HoldsNets, is_net, net_within, net_covers}
 use Rattle.column_index.specs.Columns.{subnet_key}
 use Rattle.column_index.proofs.CoverLemmas.{covers_answers, never_met, others_answers}

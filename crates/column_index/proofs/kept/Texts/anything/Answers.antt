@@ -1,7 +1,7 @@
-use Rattle.std.proofs.Common.{◌≡◌, ℕ, Bool, true, false, not, eqb, leb, min, ◌&&◌, List, length, ap, sym, ◌∙◌}
-use Rattle.string_index.specs.Texts.{Holds, same_start, short_length}
+use Rattle.std.proofs.Common.{true}
+use Rattle.string_index.specs.Texts.{Holds}
 use Rattle.column_index.specs.Columns.{text_key}
-use Rattle.column_index.proofs.CoverLemmas.{covers_answers, never_met, others_answers}
+use Rattle.column_index.proofs.CoverLemmas.{covers_answers, never_met}
 use Rattle.column_index.proofs.kept.Texts.anything.Goals as goal
 
 pub returns-then-holds : goal.returns-then-holds

@@ -1,4 +1,4 @@
-use Rattle.std.proofs.Common.{◌≡◌, ℕ, Bool, leb, min, List, length, subst, arith}
+use Rattle.std.proofs.Common.{◌≡◌, Bool, leb, min, length, subst, arith}
 use Rattle.std.proofs.lemmas.Bool.Decides.{nat_tests}
 use Rattle.bits_law.specs.Keys.{meets}
 use Rattle.string_index.specs.Texts.{Holds, short_length}

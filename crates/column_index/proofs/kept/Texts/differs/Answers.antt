@@ -1,7 +1,7 @@
-use Rattle.std.proofs.Common.{◌≡◌, ℕ, Bool, true, false, not, eqb, leb, min, ◌&&◌, List, length, ap, sym, ◌∙◌}
-use Rattle.string_index.specs.Texts.{Holds, same_start, short_length}
+use Rattle.std.proofs.Common.{not, leb, ◌&&◌, length}
+use Rattle.string_index.specs.Texts.{Holds, same_start}
 use Rattle.column_index.specs.Columns.{text_key}
-use Rattle.column_index.proofs.CoverLemmas.{covers_answers, never_met, others_answers}
+use Rattle.column_index.proofs.CoverLemmas.{covers_answers, others_answers}
 use Rattle.column_index.proofs.kept.Texts.differs.Goals as goal
 
 pub returns-clause-sure : goal.returns-clause-sure
