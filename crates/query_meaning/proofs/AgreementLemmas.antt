@@ -72,7 +72,7 @@ none_at_least None e = refl
 none_at_least (Some o) e = absurd cc
 
 -- a relation that the table does not have for the two kinds holds of no two values of them
-unrelated : (rel : Rel) (literal v : Value) → relates rel (elem_of literal) (elem_of v) ≡ false → value_meets rel literal v ≡ false
+pub unrelated : (rel : Rel) (literal v : Value) → relates rel (elem_of literal) (elem_of v) ≡ false → value_meets rel literal v ≡ false
 unrelated Eq literal v h = equals_goes literal v h
 unrelated Ne literal v h = and_false (goes_with (elem_of literal) (elem_of v)) (not (equals literal v)) h
 unrelated Lt literal v h = none_less (order_to literal v) (related_order literal v h)

@@ -1,4 +1,4 @@
-mod AgreementLemmas
+pub mod AgreementLemmas
 mod NetLaws
 mod OrderLemmas
 pub mod PickLemmas

@@ -72,7 +72,7 @@ by_less true b = refl
 by_less false true = refl
 by_less false false = refl
 
-less_is : (t u : ℤ) → is_less (Some (int_cmp t u)) ≡ int_lt t u
+pub less_is : (t u : ℤ) → is_less (Some (int_cmp t u)) ≡ int_lt t u
 less_is t u = by_less (int_lt t u) (int_lt u t)
 
 turned : (o : Ordering) → is_greater (Some (ordering_reverse o)) ≡ is_less (Some o)
@@ -80,10 +80,10 @@ turned Less = refl
 turned Equal = refl
 turned Greater = refl
 
-greater_is : (t u : ℤ) → is_greater (Some (int_cmp t u)) ≡ int_lt u t
+pub greater_is : (t u : ℤ) → is_greater (Some (int_cmp t u)) ≡ int_lt u t
 greater_is t u = ap (λ (o : Ordering). is_greater (Some o)) (int_cmp_total.antisymm t u) ∙ turned (int_cmp u t) ∙ less_is u t
 
-by_equal : (o : Ordering) → is_equal (Some o) ≡ is_eq o
+pub by_equal : (o : Ordering) → is_equal (Some o) ≡ is_eq o
 by_equal Less = refl
 by_equal Equal = refl
 by_equal Greater = refl

@@ -18,7 +18,7 @@ pub use laws::{
     sure_is_match, texts_hold,
 };
 pub use meaning::holds;
-pub use relations::{meets, text_meets};
+pub use relations::{goes_with, meets, text_meets};
 pub use resolved::{Resolved, ResolvedTest};
 pub use resolving::resolve;
 pub use sure::{bucket, maybe_cell, seconds, sure_cell, sure_holds};

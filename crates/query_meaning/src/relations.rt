@@ -215,7 +215,7 @@ fn differs(literal: &Value, value: &Value) -> bool
 }
 
 /// Whether a literal of the first kind goes with cells of the second.
-pub(crate) fn goes_with(literal: Elem, cell: Elem) -> bool
+pub fn goes_with(literal: Elem, cell: Elem) -> bool
     ensures { result ≡ goes_with literal cell }
 {
     match (literal, cell) {

@@ -1,0 +1,4 @@
+pub mod Columns
+pub mod Asked
+pub mod Kept
+pub mod Stands
