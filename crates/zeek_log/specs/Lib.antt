@@ -5,6 +5,7 @@ pub mod Going
 pub mod Heads
 pub mod Laws
 pub mod Lines
+pub mod Looks
 pub mod Naming
 pub mod Plain
 pub mod Reader
