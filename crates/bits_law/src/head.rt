@@ -60,6 +60,27 @@ struct Shared {
     apart: u64,
 }
 
+/// The bits of 64 keys, of which all count.
+fn shared_by_all(keys: &[u64]) -> Shared
+    requires long { length keys.now ≡ 64 }
+    ensures any { (taken c i : ℕ) → c < 64 → i < 64 → has_bit taken i ≡ true → has_bit (get_or keys.now i 0) c ≡ true → has_bit result.any c ≡ true }
+    ensures each { (taken c i : ℕ) → c < 64 → i < 64 → has_bit taken i ≡ true → has_bit result.each c ≡ true → has_bit (get_or keys.now i 0) c ≡ true }
+    ensures apart { (taken c i : ℕ) → c + 1 < 64 → i < 64 → has_bit taken i ≡ true → has_bit result.apart c ≡ false → has_bit (get_or keys.now i 0) (c + 1) ≡ has_bit (get_or keys.now i 0) c }
+    ensures small { result.each < 2 ^ 64 }
+    ensures narrow { result.apart < 2 ^ 64 }
+{
+    let mut any = 0;
+    let mut each = u64::MAX;
+    let mut apart = 0;
+    for i in 0..64 {
+        let key = keys[i];
+        any |= key;
+        each &= key;
+        apart |= key ^ (key >> 1);
+    }
+    Shared { any, each, apart }
+}
+
 /// The bits of the keys that `taken` has.
 fn shared_bits(keys: &[u64], taken: u64) -> Shared
     requires long { length keys.now ≡ 64 }
@@ -69,6 +90,9 @@ fn shared_bits(keys: &[u64], taken: u64) -> Shared
     ensures small { result.each < 2 ^ 64 }
     ensures narrow { result.apart < 2 ^ 64 }
 {
+    if taken == u64::MAX {
+        return shared_by_all(keys);
+    }
     let mut any = 0;
     let mut each = u64::MAX;
     let mut apart = 0;
