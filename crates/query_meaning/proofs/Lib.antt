@@ -5,4 +5,5 @@ pub mod PickLemmas
 pub mod ResolveLemmas
 mod PickLaws
 pub mod TextLemmas
+pub mod SureLemmas
 mod Vectors

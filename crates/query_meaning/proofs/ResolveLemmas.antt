@@ -1,11 +1,10 @@
 -- The cells that a pick chooses are those of the columns that were chosen for it.
-use Rattle.std.proofs.Common.{◌≡◌, ℕ, zero, suc, ◌+◌, Bool, true, false, ◌||◌, List, [], ◌∷◌, Option, None, Some, length, map, drop, slice_get, cond, refl, sym, ap, ◌∙◌, add-one, arith}
+use Rattle.std.proofs.Common.{◌≡◌, ℕ, zero, suc, ◌+◌, Bool, true, false, List, [], ◌∷◌, Some, length, map, drop, slice_get, cond, refl, sym, ap, ◌∙◌, add-one, arith}
 use Rattle.std.specs.List.{list_all, list_any}
 use Rattle.std.proofs.Math.Bool.{or-false}
 use Rattle.vast_value.specs.declared.kind.Elem.{Elem}
 use Rattle.vast_value.specs.declared.kind.Elem.TheVariants as elem
 use Rattle.vast_value.specs.declared.cell.Cell.{Cell}
-use Rattle.vast_value.specs.declared.cell.Cell.TheVariants as cell
 use Rattle.vast_value.specs.Headings.{Field, Heading}
 use Rattle.query_meaning.specs.declared.expr.Expr.{Expr, roll-Expr, fold-roll-Expr}
 use Rattle.query_meaning.specs.declared.expr.Expr.TheOpen as level

@@ -4,3 +4,5 @@ pub mod Meaning
 pub mod Picks
 pub mod Relations
 pub mod Resolving
+pub mod Sure
+pub mod SureCells

@@ -1,5 +1,5 @@
 -- Queries whose columns were chosen for one heading.
-use Rattle.std.specs.Prelude.{◌≡◌, ℕ, ◌+◌, Bool, true, false, not, if◌then◌else◌, List, [], ◌∷◌, Option, None, Some, length, map, slice_get}
+use Rattle.std.specs.Prelude.{◌≡◌, ℕ, ◌+◌, Bool, false, not, if◌then◌else◌, List, [], ◌∷◌, Option, None, Some, length, map, slice_get}
 use Rattle.std.specs.List.{list_all, list_any}
 use Rattle.vast_value.specs.declared.cell.Cell.{Cell}
 use Rattle.vast_value.specs.declared.cell.Cell.TheVariants.{Unset}

@@ -1,8 +1,9 @@
 //! Laws of the meaning of queries, each the contract of a function with an empty body.
 ghost use Rattle.vast_value.specs.Headings.{heading_of};
+ghost use Rattle.query_meaning.specs.Sure.{CellIsBounded, SureIsMatch};
 ghost use Rattle.query_meaning.specs.Laws.{TwiceNot, AllOrSome, Trichotomy, OrEqual, NoOrder, Converse, InItself, GoesOver, HoldsAll, HasWhereItOccurs, ClashHoldsOfNothing, PicksByColumn};
 
-use crate::expr::{Expr, Pick, Test};
+use crate::expr::{Expr, Literal, Pick, Rel, Test};
 use vast_value::{Bytes, Cell, Layout, Net, Row, Value};
 
 /// The law of `!`: twice is none. And the law of members: `&&` is all of them, `||` some.
@@ -63,4 +64,16 @@ pub fn picks_by_column(pick: &Pick, layout: &Layout, row: &Row)
     let _ = pick;
     let _ = layout;
     let _ = row;
+}
+
+/// The law of sure and maybe: an event that surely matches a query matches it, and one that matches may. The same of a
+/// cell and a relation.
+pub fn sure_is_match(expr: &Expr, rel: Rel, literal: &Literal, cell: &Cell)
+    ensures events { SureIsMatch expr.now }
+    ensures cells { CellIsBounded rel literal.now cell.now }
+{
+    let _ = expr;
+    let _ = rel;
+    let _ = literal;
+    let _ = cell;
 }

@@ -9,14 +9,16 @@ mod picks;
 mod relations;
 mod resolved;
 mod resolving;
+mod sure;
 
 pub use agreement::agrees;
 pub use expr::{Expr, Exprs, Literal, Pick, Rel, Test};
 pub use laws::{
     clash_holds_of_nothing, members_and_not, order_is_total, picks_by_column, subnets_hold,
-    texts_hold,
+    sure_is_match, texts_hold,
 };
 pub use meaning::holds;
 pub use relations::{meets, text_meets};
 pub use resolved::{Resolved, ResolvedTest};
 pub use resolving::resolve;
+pub use sure::{bucket, maybe_cell, seconds, sure_cell, sure_holds};

@@ -88,7 +88,7 @@ fn time_meets(rel: Rel, literal: &Literal, columns: &[Column], cells: &[Cell]) -
 }
 
 // The first cell of kind time. Where there is none the event's time is unset.
-fn event_time<'a>(columns: &[Column], cells: &'a [Cell]) -> Option<&'a Cell>
+pub(crate) fn event_time<'a>(columns: &[Column], cells: &'a [Cell]) -> Option<&'a Cell>
     requires { length columns.now ≡ length cells.now }
     ensures { MatchOption result (event_time (map field_of columns.now) cells.now ≡ cell.Unset) (λ x. x.now ≡ event_time (map field_of columns.now) cells.now) }
 {

@@ -78,7 +78,7 @@ fn is_text(literal: &Bytes, text: &[u8]) -> bool
     literal.as_slice() == text
 }
 
-fn nil_meets(rel: Rel, cell: &Cell) -> bool
+pub(crate) fn nil_meets(rel: Rel, cell: &Cell) -> bool
     ensures { result ≡ nil_meets rel cell.now }
 {
     match rel {
@@ -128,7 +128,7 @@ fn equals_element(literal: &Value, item: &Option<Value>) -> bool
     }
 }
 
-fn value_meets(rel: Rel, literal: &Value, value: &Value) -> bool
+pub(crate) fn value_meets(rel: Rel, literal: &Value, value: &Value) -> bool
     ensures { result ≡ value_meets rel literal.now value.now }
 {
     match rel {

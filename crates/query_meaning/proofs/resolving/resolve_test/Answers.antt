@@ -4,7 +4,6 @@ use Rattle.vast_value.specs.declared.column.Column.{Column}
 use Rattle.vast_value.specs.declared.kind.Elem.TheVariants.{Time}
 use Rattle.vast_value.specs.Headings.{field_of, heading_of}
 use Rattle.query_meaning.specs.Meaning.{is_of}
-use Rattle.query_meaning.specs.Picks.{is_named}
 use Rattle.query_meaning.specs.declared.resolved.ResolvedTest.{ResolvedTest}
 use Rattle.query_meaning.specs.Resolving.{IsTestOf, columns_where}
 use Rattle.query_meaning.proofs.ResolveLemmas.{kind_of, name_of, time_of}
