@@ -1,0 +1,6 @@
+pub mod AnswerLemmas
+pub mod GrowthLemmas
+mod OnceLemmas
+pub mod SnapshotLemmas
+pub mod TellingLemmas
+mod Vectors

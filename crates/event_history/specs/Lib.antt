@@ -1,0 +1,10 @@
+pub mod Choices
+pub mod Delivered
+pub mod Events
+pub mod Histories
+pub mod Laws
+pub mod Legal
+pub mod Modes
+pub mod Pieces
+pub mod Queries
+pub mod Steps

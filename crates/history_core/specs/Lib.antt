@@ -1,0 +1,4 @@
+pub mod Replies
+pub mod Searches
+pub mod Shown
+pub mod Stores

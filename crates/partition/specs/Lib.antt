@@ -1,0 +1,4 @@
+pub mod Columns
+pub mod Indexes
+pub mod Merged
+pub mod Parts
