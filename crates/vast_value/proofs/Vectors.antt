@@ -16,7 +16,7 @@ use Rattle.vast_value.specs.declared.net.Net.{Net}
 use Rattle.vast_value.specs.Nets.{net_by, net_of}
 use Rattle.vast_value.specs.Ports.{transport_code, transport_coded, transport_eq}
 use Rattle.vast_value.specs.Values.{order_of}
-use Rattle.vast_value.specs.Views.{number_cell, number_in}
+use Rattle.vast_value.specs.Views.{number_cell}
 use Rattle.vast_value.specs.declared.view.PlainNumber.TheVariants as plain
 use Rattle.vast_value.specs.ValueBytes.{number, value_bytes}
 
@@ -137,6 +137,3 @@ bytes_of_values = refl
 
 plain_numbers : (number_cell (plain.Count 53) ∷ number_cell (plain.Port 53) ∷ []) ≡ (cell.One (value.Count 53) ∷ cell.One (value.Port 53 Unknown) ∷ [])
 plain_numbers = refl
-
-numbers_in_cells : (number_in (Some (cell.One (value.Count 53))) ∷ number_in (Some (cell.One (value.Port 80 Tcp))) ∷ number_in (Some (cell.One (value.Int (pos 5)))) ∷ number_in (Some cell.Unset) ∷ number_in None ∷ []) ≡ (Some 53 ∷ Some 80 ∷ None ∷ None ∷ None ∷ [])
-numbers_in_cells = refl

@@ -1,5 +1,4 @@
 -- Cells as they are seen in a row, wherever it is kept.
-use Rattle.std.specs.Prelude.{ℕ, Option, None, Some}
 use Rattle.vast_value.specs.declared.cell.Cell.{Cell}
 use Rattle.vast_value.specs.declared.cell.Cell.TheVariants.{One}
 use Rattle.vast_value.specs.declared.transport.Transport.TheVariants.{Unknown}
@@ -14,13 +13,7 @@ abbrev pub cell_seen : SeenCell → Cell
 cell_seen (Held x) = x.now
 cell_seen (Made x) = x
 
--- the cell that is a plain number: a count, or a port of an unknown transport
+-- the cell of a kind's plain number: a count, or a port of an unknown transport
 abbrev pub number_cell : PlainNumber → Cell
 number_cell (plain.Count n) = One (value.Count n)
 number_cell (plain.Port p) = One (value.Port p Unknown)
-
--- the number of a cell that is a count or a port
-abbrev pub number_in : Option Cell → Option ℕ
-number_in (Some (One (value.Count n))) = Some n
-number_in (Some (One (value.Port p over))) = Some p
-number_in _ = None

@@ -3,7 +3,7 @@ ghost use Rattle.std.specs.Prelude.{◌≡◌, List, Some, IfOk, IfSome, slice_g
 ghost use Rattle.std.specs.Option.{option_map};
 ghost use Rattle.vast_value.specs.declared.cell.Cell.{Cell};
 ghost use Rattle.vast_value.specs.declared.cell.Cell.TheVariants.{One};
-ghost use Rattle.vast_value.specs.Views.{cell_seen, number_cell, number_in};
+ghost use Rattle.vast_value.specs.Views.{cell_seen, number_cell};
 
 use crate::cell::Cell;
 use crate::sequence::Seq;
@@ -36,18 +36,6 @@ pub enum PlainNumber {
     Count(u64),
     /// A port of an unknown transport.
     Port(u16),
-}
-
-impl PlainNumber {
-    /// The number of the count or of the port.
-    pub fn get(self) -> u64
-        ensures { number_in (Some (number_cell self)) ≡ Some result }
-    {
-        match self {
-            PlainNumber::Count(n) => n,
-            PlainNumber::Port(number) => number as u64,
-        }
-    }
 }
 
 /// A row seen as the list of its cells, wherever it is kept.

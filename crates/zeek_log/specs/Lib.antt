@@ -7,6 +7,7 @@ pub mod Laws
 pub mod Lines
 pub mod Looks
 pub mod Naming
+pub mod Numbers
 pub mod Plain
 pub mod Reader
 pub mod Standing

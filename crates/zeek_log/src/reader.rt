@@ -3,10 +3,11 @@ ghost use Rattle.std.specs.Prelude.{◌≡◌, ℕ, ◌<◌, ◌≤◌, ◌++◌
 ghost use Rattle.std.specs.List.{flat_map};
 ghost use Rattle.value_text.specs.Writing.{cell_text};
 ghost use Rattle.vast_value.specs.Headings.{heading_of};
-ghost use Rattle.vast_value.specs.Views.{number_in};
+ghost use Rattle.vast_value.specs.Views.{number_cell};
 ghost use Rattle.zeek_log.specs.Finding.{HoldsRow, most_kept};
 ghost use Rattle.zeek_log.specs.Going.{lines_left};
 ghost use Rattle.zeek_log.specs.Heads.{opening};
+ghost use Rattle.zeek_log.specs.Numbers.{number_in};
 ghost use Rattle.zeek_log.specs.Reader.{CountsOf, Follows, Reads, StepFits, StepHas, given, heading_told, moved_to, step_at};
 ghost use Rattle.zeek_log.specs.Standing.{StandsWell, standing};
 ghost use Rattle.zeek_log.specs.Steps.{step_of};
@@ -171,7 +172,7 @@ impl ZeekReader {
         ensures { IfSome result (λ number. number_in (slice_get self.now.row column) ≡ Some number) }
     {
         let number = self.plain_number(column)?;
-        Some(number.get())
+        Some(number_of(number))
     }
 
     /// The row at which the reader stands, one without cells where it stands at none.
@@ -246,5 +247,15 @@ impl RowView for ZeekReader {
                 self.lines.plain_number(&self.places, *count, column)
             }
         }
+    }
+}
+
+/// The number of a count or of a port.
+fn number_of(number: PlainNumber) -> u64
+    ensures { number_in (Some (number_cell number)) ≡ Some result }
+{
+    match number {
+        PlainNumber::Count(n) => n,
+        PlainNumber::Port(number) => number as u64,
     }
 }
