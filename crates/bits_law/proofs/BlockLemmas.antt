@@ -1,8 +1,7 @@
 -- Blocks, packed and unpacked.
-use Rattle.std.proofs.Common.{◌≡◌, ℕ, zero, suc, ◌+◌, ◌-◌, ◌*◌, ◌/◌, ◌%◌, ◌^◌, ◌<◌, ◌≤◌, cond, List, [], ◌∷◌, ◌++◌, length, get_or, take, replicate, map, count_ones, refl, ap, sym, ◌∙◌, subst, inl, inr, arith}
+use Rattle.std.proofs.Common.{◌≡◌, Bool, true, false, ℕ, zero, suc, ◌+◌, ◌-◌, ◌*◌, ◌/◌, ◌%◌, ◌^◌, ◌<◌, ◌≤◌, cond, List, [], ◌∷◌, ◌++◌, length, get_or, take, replicate, map, count_ones, refl, ap, sym, ◌∙◌, subst, inl, inr, arith}
 use Rattle.std.specs.List.{range_with_len}
 use Rattle.std.proofs.lemmas.Bool.{cases_lt}
-use Rattle.std.proofs.lemmas.Nat.{ones_le_self}
 use Rattle.std.proofs.Math.Nat.{mul-le-mul_right}
 use Rattle.std.proofs.lemmas.List.{take_all, length-append, length-map, length-replicate, get_or-map, get_or_push, get_or_past, get_or_append_left, get_or-append_right}
 use Rattle.std.proofs.lemmas.List.FromFn.{length-map-range_with_len, get_or-map-range_with_len}
@@ -12,6 +11,12 @@ use Rattle.bits_law.specs.Blocks.{parts, word_at, waiting}
 use Rattle.bits_law.specs.Packed.{no_head, moved, column_word, line_word, unpacked, IsInside, ArePacked, Begins, IsHead, AreHeads, AreAdded, IsStored, AreBehind}
 use Rattle.bits_law.proofs.WordBits.{bit-none}
 use Rattle.bits_law.proofs.PackLemmas.{begins_get, begins_same, begins_more, column_kept, inside_kept}
+
+no_bit : (c : ℕ) → has_bit 0 c ≡ true → ⊥
+no_bit c e = clash e (bit-none c)
+  where
+    clash : {x : Bool} → x ≡ true → x ≡ false → ⊥
+    clash p q = cc
 
 -- what is filled up behind a list is there anyway
 module _ {A : Type 0} where
@@ -35,7 +40,7 @@ added_is present pushed np words keys heads mid nh n taken count push rows more 
   first = ap (λ xs. get_or xs (length present) 0) np_is ∙ get_filled pushed (count - length pushed) (length present) 0 ∙ ap (λ xs. get_or xs (length present) 0) push ∙ get_or_push present taken 0 (length present) refl;
   no_rows = λ block l. ap (λ xs. get_or xs block 0) np_is ∙ get_filled pushed (count - length pushed) block 0 ∙ get_or_past pushed block 0 (omega (arith, pushed_long));
   long = resized_long mid nh (count * n) no_head nh_is mid_short;
-  made = λ part l. subst (λ h. IsHead h words keys n part taken) (sym (head_at (length heads + part))) (are.each part l);
+  made = λ part l. subst (λ h. IsHead h words (λ i. get_or keys (i * n + part) 0) taken) (sym (head_at (length heads + part))) (are.each part l);
   no_heads = λ k l. head_at k ∙ get_or_past mid k no_head (omega (arith, are.long));
 }
   where
@@ -101,7 +106,7 @@ old_word width present np heads nh words nw packed rows tops more block (suc j) 
     let at : k < length heads = omega (arith, packed.long, head_inside (parts width) (length present) block (j / 64) l (part_of width j u)) in
     ap (λ p. column_word p nw (get_or nh k no_head) (63 - j % 64)) (begins_get present np block 0 rows l)
     ∙ ap (λ h. column_word (get_or present block 0) nw h (63 - j % 64)) (begins_get heads nh k no_head tops at)
-    ∙ column_kept (get_or present block 0) words nw (get_or heads k no_head) (63 - j % 64) (packed.inside k at) more
+    ∙ column_kept (get_or present block 0) words nw (get_or heads k no_head) (63 - j % 64) (omega arith) (packed.inside k at) more
 
 module _ (width : ℕ) (present np : List ℕ) (heads nh : List Head) (words nw keys : List ℕ) (taken count : ℕ) (packed : ArePacked width present heads words) (a : AreAdded present np heads nh nw keys (parts width) taken count) (rows : Begins present np) (tops : Begins heads nh) (more : Begins words nw) (few : length present < count) where
   new_word : (line i : ℕ) → line ≤ width → i < 64 → has_bit (line_word (parts width) np nh nw (length present) line) i ≡ waiting keys width taken line i
@@ -154,7 +159,7 @@ module _ (width : ℕ) (present np : List ℕ) (heads nh : List Head) (words nw 
         | inl new ↦
             let place : length heads + (k - length heads) ≡ k = omega arith in
             subst (λ k. IsInside (get_or nh k no_head) nw) place (a.made (k - length heads) (omega arith)).inside
-        | inr gap ↦ subst (λ h. IsInside h nw) (sym (a.no_heads k gap)) (omega (arith, ones_le_self 0))
+        | inr gap ↦ subst (λ h. IsInside h nw) (sym (a.no_heads k gap)) (record { begins = omega arith; kept = λ c l is. absurd (no_bit c is) })
       ]
     ];
   }
@@ -162,8 +167,14 @@ module _ (width : ℕ) (present np : List ℕ) (heads nh : List Head) (words nw 
 -- other blocks are added behind
 pub column_moved : (present by : ℕ) (words other : List ℕ) (head : Head) (c : ℕ) → by ≡ length words → column_word present (words ++ other) (moved by head) c ≡ column_word present other head c
 column_moved present by words other head c e = ap (λ x. cond (has_bit head.literal c) x (cond (has_bit head.full c) present 0)) (
-    get_or-append_right words other (length words) (head.from + by + count_ones (head.literal / 2 ^ c / 2)) 0 refl (omega (arith, e))
-    ∙ ap (λ k. get_or other k 0) (let back : head.from + by + count_ones (head.literal / 2 ^ c / 2) - length words ≡ head.from + count_ones (head.literal / 2 ^ c / 2) = omega (arith, e) in back))
+    get_or-append_right words other (length words) (head.from + by + count_ones (head.own / 2 ^ c / 2)) 0 refl (omega (arith, e))
+    ∙ ap (λ k. get_or other k 0) (let back : head.from + by + count_ones (head.own / 2 ^ c / 2) - length words ≡ head.from + count_ones (head.own / 2 ^ c / 2) = omega (arith, e) in back))
+
+pub inside_moved : (by : ℕ) (words other : List ℕ) (head : Head) → by ≡ length words → IsInside head other → IsInside (moved by head) (words ++ other)
+inside_moved by words other head is h = record {
+  begins = omega (arith, is, h.begins, length-append words other);
+  kept = λ c l e. omega (arith, is, h.kept c l e, length-append words other);
+}
 
 module _ (width : ℕ) (present op : List ℕ) (heads oh : List Head) (words ow : List ℕ) (by : ℕ) (is : by ≡ length words) (packed : ArePacked width present heads words) (other : ArePacked width op oh ow) where
   abbrev pub moved_heads : List Head
@@ -217,12 +228,12 @@ module _ (width : ℕ) (present op : List ℕ) (heads oh : List Head) (words ow 
     narrow = packed.narrow;
     long = length-append heads moved_heads ∙ omega (arith, packed.long, other.long, length-map oh (moved by), mul_add) ∙ ap (λ k. k * parts width) (sym (length-append present op));
     inside = λ k l. elim (cases_lt k (length heads)) [
-      | inl old ↦ subst (λ h. IsInside h (words ++ ow)) (sym (get_or_append_left heads moved_heads no_head k old)) (omega (arith, packed.inside k old, length-append words ow))
+      | inl old ↦ subst (λ h. IsInside h (words ++ ow)) (sym (get_or_append_left heads moved_heads no_head k old)) (inside_kept words (words ++ ow) (get_or heads k no_head) (packed.inside k old) (begins_more words words ow (begins_same words)))
       | inr new ↦
           let place : length heads + (k - length heads) ≡ k = omega arith in
           let under : k - length heads < length oh = omega (arith, length-append heads moved_heads, length-map oh (moved by)) in
           subst (λ i. IsInside (get_or (heads ++ moved_heads) i no_head) (words ++ ow)) place
-          (subst (λ h. IsInside h (words ++ ow)) (sym (head_moved (k - length heads) under)) (omega (arith, is, other.inside (k - length heads) under, length-append words ow)))
+          (subst (λ h. IsInside h (words ++ ow)) (sym (head_moved (k - length heads) under)) (inside_moved by words ow (get_or oh (k - length heads) no_head) is (other.inside (k - length heads) under)))
     ];
   }
     where

@@ -2,17 +2,17 @@
 use Rattle.std.proofs.Common.{◌≡◌, ℕ, zero, suc, ◌+◌, ◌-◌, ◌*◌, ◌/◌, ◌%◌, ◌^◌, ◌<◌, ◌≤◌, min, Bool, true, false, eqb, ◌⊎◌, ◌&&◌, ◌||◌, not, cond, List, [], ◌∷◌, ◌++◌, length, get_or, take, count_ones, refl, ap, sym, ◌∙◌, subst, inl, inr, arith}
 use Rattle.std.proofs.lemmas.Bool.{cases_eq, cases_Bool, eqb-true}
 use Rattle.std.proofs.lemmas.Nat.{ones_le_self, shr_split, shr-shr, pow_pos, mod_below}
-use Rattle.std.proofs.lemmas.Nat.Bits.{bit_at-lt}
+use Rattle.std.proofs.lemmas.Nat.Bits.{bit_at-lt, bit_at_xor}
 use Rattle.std.proofs.lemmas.Grind.{pow_more}
 use Rattle.std.proofs.Math.Nat.{div-div-eq-div-mul, div-one}
 use Rattle.std.proofs.lemmas.List.{take-append-le, take_all, length-take, get_or-take, length-append, get_or_append_left, get_or-append_right, get_or_push}
-use Rattle.std.specs.Prelude.{bit_and, bit_or}
-use Rattle.std.specs.Int.{bit_not, w64}
+use Rattle.std.specs.Prelude.{bit_and, bit_or, bit_xor}
+use Rattle.std.specs.Int.{bit_at, bit_not, w64}
 use lib.Count.{ones_step, ones_cat}
 use Rattle.bits_law.specs.declared.head.Head.{Head}
 use Rattle.bits_law.specs.Numbers.{has_bit}
 use Rattle.bits_law.specs.Packed.{no_head, column_word, IsInside, IsHead, AreHeads, AreFilled, Begins}
-use Rattle.bits_law.proofs.WordBits.{bit-none, bit-and, bit-or, bit-not}
+use Rattle.bits_law.proofs.WordBits.{bit-none, bit-and, bit-or, bit-not, up_low, up_high, down}
 
 -- the ones of a word from a bit up
 odd_bit : (x : ℕ) → eqb x 1 ≡ true → x ≡ 1
@@ -142,18 +142,116 @@ filled_skip old new literal c at word is clear_there f = record {
     clash : {x y : Bool} → x ≡ y → x ≡ true → y ≡ false → ⊥
     clash p q r = cc
 
+-- a column that repeats the one below it
+pub xor_same : (a b i : ℕ) → has_bit (bit_xor a b) i ≡ false → has_bit a i ≡ has_bit b i
+xor_same a b i e = at (bit_at a i) (bit_at b i) (bit_at-lt a i) (bit_at-lt b i) (sym (ap (λ x. eqb x 1) (bit_at_xor a b i)) ∙ e)
+  where
+    at : (x y : ℕ) → x < 2 → y < 2 → eqb ((x + y) % 2) 1 ≡ false → eqb x 1 ≡ eqb y 1
+    at zero zero l m e = refl
+    at zero (suc zero) l m e = cc
+    at zero (suc (suc y)) l m e = absurd (omega arith)
+    at (suc zero) zero l m e = cc
+    at (suc zero) (suc zero) l m e = refl
+    at (suc zero) (suc (suc y)) l m e = absurd (omega arith)
+    at (suc (suc x)) y l m e = absurd (omega arith)
+
+not_and : (a b : Bool) → (a && not b) ≡ false → a ≡ true → b ≡ true
+not_and true true e t = refl
+not_and true false e t = cc
+not_and false b e t = cc
+
+both_true : (a b : Bool) → (a && not b) ≡ true → (a ≡ true) × (b ≡ false)
+both_true true true e = cc
+both_true true false e = (refl, refl)
+both_true false b e = cc
+
+abbrev pub own_of : ℕ → ℕ → ℕ
+own_of literal apart = bit_and literal (bit_not w64 (bit_and literal (bit_not w64 apart) * 2 ^ 1 % 2 ^ 64))
+
+-- a literal column without a word of its own is equal to the literal column below it
+repeats : (literal apart c : ℕ) → apart < 2 ^ 64 → c < 64 → has_bit literal c ≡ true → has_bit (own_of literal apart) c ≡ false → has_bit (bit_and literal (bit_not w64 apart) * 2 ^ 1 % 2 ^ 64) c ≡ true
+repeats literal apart c small l is isnt =
+    let again = bit_and literal (bit_not w64 apart) * 2 ^ 1 % 2 ^ 64 in
+    not_and (has_bit literal c) (has_bit again c)
+    (ap (λ b. has_bit literal c && b) (sym (bit-not again c (mod_below (bit_and literal (bit_not w64 apart) * 2 ^ 1) (2 ^ 64) (pow_pos 64)) l)) ∙ sym (bit-and literal (bit_not w64 again) c) ∙ isnt) is
+
+own_lowest : (literal apart : ℕ) → apart < 2 ^ 64 → has_bit literal 0 ≡ true → has_bit (own_of literal apart) 0 ≡ true
+own_lowest literal apart small is = elim (cases_Bool (has_bit (own_of literal apart) 0)) [
+  | inl own ↦ own
+  | inr isnt ↦ absurd (clash (repeats literal apart 0 small (omega arith) is isnt) (up_low (bit_and literal (bit_not w64 apart)) 1 0 (omega arith) (omega arith)))
+]
+  where
+    clash : {x : Bool} → x ≡ true → x ≡ false → ⊥
+    clash p q = cc
+
+own_below : (literal apart c : ℕ) → apart < 2 ^ 64 → c + 1 < 64 → has_bit literal (c + 1) ≡ true → has_bit (own_of literal apart) (c + 1) ≡ false → (has_bit literal c ≡ true) × (has_bit apart c ≡ false)
+own_below literal apart c small l is isnt =
+    let down : has_bit (bit_and literal (bit_not w64 apart)) c ≡ true =
+    ap (has_bit (bit_and literal (bit_not w64 apart))) (let back : c ≡ c + 1 - 1 = omega arith in back) ∙ sym (up_high (bit_and literal (bit_not w64 apart)) 1 (c + 1) (omega arith) l) ∙ repeats literal apart (c + 1) small l is isnt in
+    both_true (has_bit literal c) (has_bit apart c) (ap (λ b. has_bit literal c && b) (sym (bit-not apart c small (omega arith))) ∙ sym (bit-and literal (bit_not w64 apart) c) ∙ down)
+
+module _ (old new : List ℕ) (literal apart taken : ℕ) (key : ℕ → ℕ) (small : apart < 2 ^ 64)
+    (apart_is : (c i : ℕ) → c + 1 < 64 → i < 64 → has_bit taken i ≡ true → has_bit apart c ≡ false → has_bit (key i) (c + 1) ≡ has_bit (key i) c)
+    (f : AreFilled old new (own_of literal apart) 0 (λ c i. has_bit taken i && has_bit (key i) c)) where
+  abbrev pub own : ℕ
+  own = own_of literal apart
+
+  pub record IsColumn (c : ℕ) : Type 0 where
+    pub place : length old + count_ones (own / 2 ^ c / 2) < length new
+    pub bits : (i : ℕ) → i < 64 → has_bit (get_or new (length old + count_ones (own / 2 ^ c / 2)) 0) i ≡ (has_bit taken i && has_bit (key i) c)
+
+  own_column : (c : ℕ) → c < 64 → has_bit own c ≡ true → IsColumn c
+  own_column c l is = record {
+    place = omega (arith, place_inside own c is, f.long, ap count_ones (div-one own));
+    bits = λ i u. f.each c i (omega arith) l u is;
+  }
+
+  taken_same : (t a b : Bool) → (t ≡ true → a ≡ b) → (t && b) ≡ (t && a)
+  taken_same true a b e = sym (e refl)
+  taken_same false a b e = refl
+
+  next_column : (c : ℕ) → c + 1 < 64 → has_bit literal (c + 1) ≡ true → (has_bit literal c ≡ true → IsColumn c) → IsColumn (c + 1)
+  next_column c l is lower = elim (cases_Bool (has_bit own (c + 1))) [
+    | inl mine ↦ own_column (c + 1) l mine
+    | inr isnt ↦
+        let next = own_below literal apart c small l is isnt in
+        let below = lower next.0 in
+        let same : count_ones (own / 2 ^ (c + 1) / 2) ≡ count_ones (own / 2 ^ c / 2) =
+        sym (ones_clear own (c + 1) isnt) ∙ ap count_ones (sym (half_of own c)) in
+        record {
+          place = omega (arith, below.place, same);
+          bits = λ i u. ap (λ k. has_bit (get_or new (length old + k) 0) i) same ∙ below.bits i u
+              ∙ taken_same (has_bit taken i) (has_bit (key i) (c + 1)) (has_bit (key i) c) (λ t. apart_is c i l u t next.1);
+        }
+  ]
+
+  pub literal_column : (c : ℕ) → c < 64 → has_bit literal c ≡ true → IsColumn c
+  literal_column zero l is = own_column 0 l (own_lowest literal apart small is)
+  literal_column (suc c) l is =
+      let up : c + 1 ≡ suc c = omega arith in
+      subst IsColumn up (next_column c (omega arith) (ap (has_bit literal) up ∙ is) (literal_column c (omega arith)))
+
 -- a head of filled columns
-pub head_is : (head : Head) (old new keys : List ℕ) (n part taken any each : ℕ) → head.literal ≡ bit_and any (bit_not w64 each) → head.full ≡ each → head.from ≡ length old → each < 2 ^ 64 → ((c i : ℕ) → c < 64 → i < 64 → has_bit taken i ≡ true → has_bit (get_or keys (i * n + part) 0) c ≡ true → has_bit any c ≡ true) → ((c i : ℕ) → c < 64 → i < 64 → has_bit taken i ≡ true → has_bit each c ≡ true → has_bit (get_or keys (i * n + part) 0) c ≡ true) → AreFilled old new head.literal 0 (λ c i. has_bit taken i && has_bit (get_or keys (i * n + part) 0) c) → IsHead head new keys n part taken
-head_is head old new keys n part taken any each literal full from small any_is each_is f = record {
-  inside = omega (arith, from, f.long, ap count_ones (div-one head.literal));
+pub head_is : (head : Head) (old new : List ℕ) (key : ℕ → ℕ) (taken any each apart : ℕ) → head.literal ≡ bit_and any (bit_not w64 each) → head.own ≡ own_of head.literal apart → head.full ≡ each → head.from ≡ length old → each < 2 ^ 64 → apart < 2 ^ 64 → ((c i : ℕ) → c < 64 → i < 64 → has_bit taken i ≡ true → has_bit (key i) c ≡ true → has_bit any c ≡ true) → ((c i : ℕ) → c < 64 → i < 64 → has_bit taken i ≡ true → has_bit each c ≡ true → has_bit (key i) c ≡ true) → ((c i : ℕ) → c + 1 < 64 → i < 64 → has_bit taken i ≡ true → has_bit apart c ≡ false → has_bit (key i) (c + 1) ≡ has_bit (key i) c) → AreFilled old new head.own 0 (λ c i. has_bit taken i && has_bit (key i) c) → IsHead head new key taken
+head_is head old new key taken any each apart literal own full from small narrow any_is each_is apart_is f = record {
+  inside = record {
+    begins = omega (arith, from, f.long);
+    kept = λ c l is. let k = (column c l is).place in omega (arith, from, k, ap (λ o. count_ones (o / 2 ^ c / 2)) own);
+  };
   bits = λ c i l u. elim (cases_Bool (has_bit head.literal c)) [
-    | inl is ↦ ap (λ b. has_bit (cond b (get_or new (head.from + count_ones (head.literal / 2 ^ c / 2)) 0) (cond (has_bit head.full c) taken 0)) i) is ∙ ap (λ k. has_bit (get_or new (k + count_ones (head.literal / 2 ^ c / 2)) 0) i) from ∙ f.each c i (omega arith) l u is
-    | inr isnt ↦ ap (λ b. has_bit (cond b (get_or new (head.from + count_ones (head.literal / 2 ^ c / 2)) 0) (cond (has_bit head.full c) taken 0)) i) isnt ∙ constant c i l u isnt
+    | inl is ↦ ap (λ b. has_bit (cond b (get_or new (head.from + count_ones (head.own / 2 ^ c / 2)) 0) (cond (has_bit head.full c) taken 0)) i) is
+        ∙ ap (λ k. has_bit (get_or new (k + count_ones (head.own / 2 ^ c / 2)) 0) i) from
+        ∙ ap (λ o. has_bit (get_or new (length old + count_ones (o / 2 ^ c / 2)) 0) i) own
+        ∙ (column c l is).bits i u
+    | inr isnt ↦ ap (λ b. has_bit (cond b (get_or new (head.from + count_ones (head.own / 2 ^ c / 2)) 0) (cond (has_bit head.full c) taken 0)) i) isnt ∙ constant c i l u isnt
   ];
 }
   where
-    constant : (c i : ℕ) → c < 64 → i < 64 → has_bit head.literal c ≡ false → has_bit (cond (has_bit head.full c) taken 0) i ≡ (has_bit taken i && has_bit (get_or keys (i * n + part) 0) c)
-    constant c i l u isnt = at (has_bit taken i) (has_bit (get_or keys (i * n + part) 0) c) (has_bit any c) (has_bit each c) (has_bit head.full c) (has_bit head.literal c) refl (ap (λ x. has_bit x c) literal ∙ bit-and any (bit_not w64 each) c ∙ ap (λ b. has_bit any c && b) (bit-not each c small l)) (ap (λ x. has_bit x c) full) isnt (any_is c i l u) (each_is c i l u)
+    column : (c : ℕ) → c < 64 → has_bit head.literal c ≡ true → IsColumn old new head.literal apart taken key narrow apart_is (subst (λ o. AreFilled old new o 0 (λ c i. has_bit taken i && has_bit (key i) c)) own f) c
+    column = literal_column old new head.literal apart taken key narrow apart_is (subst (λ o. AreFilled old new o 0 (λ c i. has_bit taken i && has_bit (key i) c)) own f)
+
+    constant : (c i : ℕ) → c < 64 → i < 64 → has_bit head.literal c ≡ false → has_bit (cond (has_bit head.full c) taken 0) i ≡ (has_bit taken i && has_bit (key i) c)
+    constant c i l u isnt = at (has_bit taken i) (has_bit (key i) c) (has_bit any c) (has_bit each c) (has_bit head.full c) (has_bit head.literal c) refl (ap (λ x. has_bit x c) literal ∙ bit-and any (bit_not w64 each) c ∙ ap (λ b. has_bit any c && b) (bit-not each c small l)) (ap (λ x. has_bit x c) full) isnt (any_is c i l u) (each_is c i l u)
       where
         at : (t k a e f h : Bool) → t ≡ has_bit taken i → h ≡ (a && not e) → f ≡ e → h ≡ false → (t ≡ true → k ≡ true → a ≡ true) → (t ≡ true → e ≡ true → k ≡ true) → has_bit (cond f taken 0) i ≡ (t && k)
         at false k a e true h t p q r s v = sym t
@@ -168,6 +266,13 @@ head_is head old new keys n part taken any each literal full from small any_is e
           where
             clash : h ≡ (a && not e) → false ≡ e → h ≡ false → a ≡ true → ⊥
             clash p q r u = cc
+
+-- the keys of a head by another name
+pub head_of : (head : Head) (words : List ℕ) (key other : ℕ → ℕ) (taken : ℕ) → ((i : ℕ) → i < 64 → key i ≡ other i) → IsHead head words key taken → IsHead head words other taken
+head_of head words key other taken same h = record {
+  inside = h.inside;
+  bits = λ c i l u. h.bits c i l u ∙ ap (λ k. has_bit taken i && has_bit k c) (same i u);
+}
 
 -- what any key and what each key has, with one more key
 or_left : (x y : Bool) → x ≡ true → (x || y) ≡ true
@@ -195,25 +300,25 @@ and_right false y e = absurd (clash e)
 split_last : (k i : ℕ) → k < i + 1 → (k < i) ⊎ (k ≡ i)
 split_last k i l = elim (cases_eq k i) [ inl e ↦ inr e | inr ne ↦ inl (omega arith) ]
 
-module _ (keys : List ℕ) (n part taken i : ℕ) where
+module _ (keys : List ℕ) (taken i : ℕ) where
   abbrev pub AnyOf : ℕ → ℕ → Type 0
-  AnyOf any end = (c k : ℕ) → c < 64 → k < end → has_bit taken k ≡ true → has_bit (get_or keys (k * n + part) 0) c ≡ true → has_bit any c ≡ true
+  AnyOf any end = (c k : ℕ) → c < 64 → k < end → has_bit taken k ≡ true → has_bit (get_or keys k 0) c ≡ true → has_bit any c ≡ true
 
   abbrev pub EachOf : ℕ → ℕ → Type 0
-  EachOf each end = (c k : ℕ) → c < 64 → k < end → has_bit taken k ≡ true → has_bit each c ≡ true → has_bit (get_or keys (k * n + part) 0) c ≡ true
+  EachOf each end = (c k : ℕ) → c < 64 → k < end → has_bit taken k ≡ true → has_bit each c ≡ true → has_bit (get_or keys k 0) c ≡ true
 
-  pub any_more : (any next : ℕ) → next ≡ bit_or any (get_or keys (i * n + part) 0) → AnyOf any i → AnyOf next (i + 1)
-  any_more any next e h c k l u t b = ap (λ x. has_bit x c) e ∙ bit-or any (get_or keys (i * n + part) 0) c ∙ elim (split_last k i u) [
+  pub any_more : (any next : ℕ) → next ≡ bit_or any (get_or keys i 0) → AnyOf any i → AnyOf next (i + 1)
+  any_more any next e h c k l u t b = ap (λ x. has_bit x c) e ∙ bit-or any (get_or keys i 0) c ∙ elim (split_last k i u) [
     | inl less ↦ or_left _ _ (h c k l less t b)
-    | inr same ↦ or_right _ _ (ap (λ k. has_bit (get_or keys (k * n + part) 0) c) (sym same) ∙ b)
+    | inr same ↦ or_right _ _ (ap (λ k. has_bit (get_or keys k 0) c) (sym same) ∙ b)
   ]
 
-  pub each_more : (each next : ℕ) → next ≡ bit_and each (get_or keys (i * n + part) 0) → EachOf each i → EachOf next (i + 1)
+  pub each_more : (each next : ℕ) → next ≡ bit_and each (get_or keys i 0) → EachOf each i → EachOf next (i + 1)
   each_more each next e h c k l u t b =
-      let both = sym (ap (λ x. has_bit x c) e ∙ bit-and each (get_or keys (i * n + part) 0) c) ∙ b in
+      let both = sym (ap (λ x. has_bit x c) e ∙ bit-and each (get_or keys i 0) c) ∙ b in
       elim (split_last k i u) [
         | inl less ↦ h c k l less t (and_left _ _ both)
-        | inr same ↦ ap (λ k. has_bit (get_or keys (k * n + part) 0) c) same ∙ and_right _ _ both
+        | inr same ↦ ap (λ k. has_bit (get_or keys k 0) c) same ∙ and_right _ _ both
       ]
 
   pub any_kept : (any next : ℕ) → next ≡ any → has_bit taken i ≡ false → AnyOf any i → AnyOf next (i + 1)
@@ -234,43 +339,73 @@ module _ (keys : List ℕ) (n part taken i : ℕ) where
       clash : {x y : Bool} → x ≡ y → x ≡ true → y ≡ false → ⊥
       clash p q r = cc
 
+  abbrev pub ApartOf : ℕ → ℕ → Type 0
+  ApartOf apart end = (c k : ℕ) → c + 1 < 64 → k < end → has_bit taken k ≡ true → has_bit apart c ≡ false → has_bit (get_or keys k 0) (c + 1) ≡ has_bit (get_or keys k 0) c
+
+  pub apart_more : (apart next : ℕ) → next ≡ bit_or apart (bit_xor (get_or keys i 0) (get_or keys i 0 / 2 ^ 1)) → ApartOf apart i → ApartOf next (i + 1)
+  apart_more apart next e h c k l u t b =
+      let key = get_or keys i 0 in
+      let both = neither (has_bit apart c) _ (sym (ap (λ x. has_bit x c) e ∙ bit-or apart (bit_xor key (key / 2 ^ 1)) c) ∙ b) in
+      elim (split_last k i u) [
+        | inl less ↦ h c k l less t both.0
+        | inr same ↦ ap (λ k. has_bit (get_or keys k 0) (c + 1)) same
+            ∙ ap (has_bit key) (let turned : c + 1 ≡ 1 + c = omega arith in turned) ∙ sym (down key 1 c) ∙ sym (xor_same key (key / 2 ^ 1) c both.1)
+            ∙ ap (λ k. has_bit (get_or keys k 0) c) (sym same)
+      ]
+    where
+      neither : (x y : Bool) → (x || y) ≡ false → (x ≡ false) × (y ≡ false)
+      neither true y e = cc
+      neither false y e = (refl, e)
+
+  pub apart_kept : (apart next : ℕ) → next ≡ apart → has_bit taken i ≡ false → ApartOf apart i → ApartOf next (i + 1)
+  apart_kept apart next e out h c k l u t b = elim (split_last k i u) [
+    | inl less ↦ h c k l less t (sym (ap (λ x. has_bit x c) e) ∙ b)
+    | inr same ↦ absurd (clash (ap (has_bit taken) same) t out)
+  ]
+    where
+      clash : {x y : Bool} → x ≡ y → x ≡ true → y ≡ false → ⊥
+      clash p q r = cc
+
 -- words that are added behind change no column
-pub column_kept : (present : ℕ) (words more : List ℕ) (head : Head) (c : ℕ) → IsInside head words → Begins words more → column_word present more head c ≡ column_word present words head c
-column_kept present words more head c h b = elim (cases_Bool (has_bit head.literal c)) [
+pub column_kept : (present : ℕ) (words more : List ℕ) (head : Head) (c : ℕ) → c < 64 → IsInside head words → Begins words more → column_word present more head c ≡ column_word present words head c
+column_kept present words more head c l h b = elim (cases_Bool (has_bit head.literal c)) [
   | inl is ↦
-      let place : head.from + count_ones (head.literal / 2 ^ c / 2) < length words = omega (arith, place_inside head.literal c is, h) in
-      ap (λ x. cond x (get_or more (head.from + count_ones (head.literal / 2 ^ c / 2)) 0) (cond (has_bit head.full c) present 0)) is
-      ∙ begins_get words more (head.from + count_ones (head.literal / 2 ^ c / 2)) 0 b place
-      ∙ ap (λ x. cond x (get_or words (head.from + count_ones (head.literal / 2 ^ c / 2)) 0) (cond (has_bit head.full c) present 0)) (sym is)
+      let place : head.from + count_ones (head.own / 2 ^ c / 2) < length words = h.kept c l is in
+      ap (λ x. cond x (get_or more (head.from + count_ones (head.own / 2 ^ c / 2)) 0) (cond (has_bit head.full c) present 0)) is
+      ∙ begins_get words more (head.from + count_ones (head.own / 2 ^ c / 2)) 0 b place
+      ∙ ap (λ x. cond x (get_or words (head.from + count_ones (head.own / 2 ^ c / 2)) 0) (cond (has_bit head.full c) present 0)) (sym is)
   | inr isnt ↦
-      ap (λ x. cond x (get_or more (head.from + count_ones (head.literal / 2 ^ c / 2)) 0) (cond (has_bit head.full c) present 0)) isnt
-      ∙ ap (λ x. cond x (get_or words (head.from + count_ones (head.literal / 2 ^ c / 2)) 0) (cond (has_bit head.full c) present 0)) (sym isnt)
+      ap (λ x. cond x (get_or more (head.from + count_ones (head.own / 2 ^ c / 2)) 0) (cond (has_bit head.full c) present 0)) isnt
+      ∙ ap (λ x. cond x (get_or words (head.from + count_ones (head.own / 2 ^ c / 2)) 0) (cond (has_bit head.full c) present 0)) (sym isnt)
 ]
 
 pub inside_kept : (words more : List ℕ) (head : Head) → IsInside head words → Begins words more → IsInside head more
-inside_kept words more head h b = let longer = begins_long words more b in omega (arith, h, longer)
+inside_kept words more head h b = let longer = begins_long words more b in record {
+  begins = omega (arith, h.begins, longer);
+  kept = λ c l is. omega (arith, h.kept c l is, longer);
+}
 
-pub head_kept : (head : Head) (words more keys : List ℕ) (n part taken : ℕ) → Begins words more → IsHead head words keys n part taken → IsHead head more keys n part taken
-head_kept head words more keys n part taken b h = record {
+pub head_kept : (head : Head) (words more : List ℕ) (key : ℕ → ℕ) (taken : ℕ) → Begins words more → IsHead head words key taken → IsHead head more key taken
+head_kept head words more key taken b h = record {
   inside = inside_kept words more head h.inside b;
-  bits = λ c i l u. ap (λ w. has_bit w i) (column_kept taken words more head c h.inside b) ∙ h.bits c i l u;
+  bits = λ c i l u. ap (λ w. has_bit w i) (column_kept taken words more head c l h.inside b) ∙ h.bits c i l u;
 }
 
 -- the heads of a block
 pub heads_none : (old : List Head) (words keys : List ℕ) (n taken : ℕ) → AreHeads old old words keys n 0 taken
 heads_none old words keys n taken = record { long = omega arith; before = begins_same old; each = λ part l. absurd (omega arith) }
 
-pub heads_more : (old new : List Head) (words more keys : List ℕ) (n done taken : ℕ) (head : Head) → Begins words more → IsHead head more keys n done taken → AreHeads old new words keys n done taken → AreHeads old (new ++ head ∷ []) more keys n (done + 1) taken
+pub heads_more : (old new : List Head) (words more keys : List ℕ) (n done taken : ℕ) (head : Head) → Begins words more → IsHead head more (λ i. get_or keys (i * n + done) 0) taken → AreHeads old new words keys n done taken → AreHeads old (new ++ head ∷ []) more keys n (done + 1) taken
 heads_more old new words more keys n done taken head b is h = record {
   long = length-append new (head ∷ []) ∙ omega (arith, h.long);
   before = begins_more old new (head ∷ []) h.before;
   each = λ part l. elim (cases_eq part done) [
     | inl same ↦
         let place : length new ≡ length old + part = h.long ∙ ap (λ k. length old + k) (sym same) in
-        subst (λ x. IsHead x more keys n part taken) (sym (get_or_push new head no_head (length old + part) place)) (subst (λ k. IsHead head more keys n k taken) (sym same) is)
+        subst (λ x. IsHead x more (λ i. get_or keys (i * n + part) 0) taken) (sym (get_or_push new head no_head (length old + part) place)) (subst (λ k. IsHead head more (λ i. get_or keys (i * n + k) 0) taken) (sym same) is)
     | inr other ↦
         let less : part < done = omega arith in
-        subst (λ x. IsHead x more keys n part taken) (sym (get_or_append_left new (head ∷ []) no_head (length old + part) (omega (arith, h.long))))
-        (head_kept _ words more keys n part taken b (h.each part less))
+        subst (λ x. IsHead x more (λ i. get_or keys (i * n + part) 0) taken) (sym (get_or_append_left new (head ∷ []) no_head (length old + part) (omega (arith, h.long))))
+        (head_kept _ words more (λ i. get_or keys (i * n + part) 0) taken b (h.each part less))
   ];
 }

@@ -11,8 +11,8 @@ use Rattle.bits_law.specs.Packed.{IsPlane}
 use Rattle.bits_law.proofs.WordBits.{bit-and}
 use lib.Lanes.{mask_l}
 
-pub plane_more : (plane keys : List ℕ) (n part byte i v : ℕ) → i < length plane → v ≡ get_or keys (i * n + part) 0 / 2 ^ (8 * byte) % 256 → IsPlane plane keys n part byte i → IsPlane (set plane i v) keys n part byte (i + 1)
-plane_more plane keys n part byte i v l e p = record {
+pub plane_more : (plane keys : List ℕ) (byte i v : ℕ) → i < length plane → v ≡ get_or keys i 0 / 2 ^ (8 * byte) % 256 → IsPlane plane keys byte i → IsPlane (set plane i v) keys byte (i + 1)
+plane_more plane keys byte i v l e p = record {
   each = λ k u. elim (cases_eq k i) [
     | inl same ↦ rw same (get_or-set_same plane i v 0 l ∙ e)
     | inr other ↦ get_or-set_other plane i k v 0 other ∙ p.each k (omega arith)
@@ -70,8 +70,8 @@ byte_bit x at =
     ∙ ap (λ y. eqb (y % 2) 1) (shr-shr x (8 * (at / 8)) (at % 8))
     ∙ ap (has_bit x) back
 
-pub plane_bit : (plane keys : List ℕ) (n part at i : ℕ) → i < 64 → IsPlane plane keys n part (at / 8) 64 → has_bit (get_or plane i 0) (at % 8) ≡ has_bit (get_or keys (i * n + part) 0) at
-plane_bit plane keys n part at i l p = ap (λ x. has_bit x (at % 8)) (p.each i l) ∙ byte_bit (get_or keys (i * n + part) 0) at
+pub plane_bit : (plane keys : List ℕ) (at i : ℕ) → i < 64 → IsPlane plane keys (at / 8) 64 → has_bit (get_or plane i 0) (at % 8) ≡ has_bit (get_or keys i 0) at
+plane_bit plane keys at i l p = ap (λ x. has_bit x (at % 8)) (p.each i l) ∙ byte_bit (get_or keys i 0) at
 
 pub map_test : (xs : List ℕ) (k : ℕ) → k < 8 → map (λ x. eqb x (1 * 2 ^ k % 2 ^ 8)) (map (λ x. bit_and x (1 * 2 ^ k % 2 ^ 8)) xs) ≡ map (λ x. has_bit x k) xs
 map_test [] k l = refl
@@ -88,10 +88,10 @@ marks_bit m k i plane e size l =
     back false = refl
 
 -- the marks of the keys that there are
-pub marked_column : (m taken n part at i : ℕ) (plane keys : List ℕ) → m ≡ mask_l (map (λ b. has_bit b (at % 8)) plane) → length plane ≡ 64 → IsPlane plane keys n part (at / 8) 64 → i < 64 → has_bit (bit_and m taken) i ≡ (has_bit taken i && has_bit (get_or keys (i * n + part) 0) at)
-marked_column m taken n part at i plane keys e size p l =
+pub marked_column : (m taken at i : ℕ) (plane keys : List ℕ) → m ≡ mask_l (map (λ b. has_bit b (at % 8)) plane) → length plane ≡ 64 → IsPlane plane keys (at / 8) 64 → i < 64 → has_bit (bit_and m taken) i ≡ (has_bit taken i && has_bit (get_or keys i 0) at)
+marked_column m taken at i plane keys e size p l =
     bit-and m taken i ∙ turned (has_bit m i) (has_bit taken i)
-    ∙ ap (λ b. has_bit taken i && b) (marks_bit m (at % 8) i plane e size l ∙ plane_bit plane keys n part at i l p)
+    ∙ ap (λ b. has_bit taken i && b) (marks_bit m (at % 8) i plane e size l ∙ plane_bit plane keys at i l p)
   where
     turned : (x y : Bool) → (x && y) ≡ (y && x)
     turned true true = refl

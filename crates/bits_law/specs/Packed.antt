@@ -7,15 +7,16 @@ use Rattle.bits_law.specs.Blocks.{Lines, parts, word_at, waiting}
 
 -- the head of columns that have no bit
 abbrev pub no_head : Head
-no_head = record { literal = 0; full = 0; from = 0 }
+no_head = record { literal = 0; own = 0; full = 0; from = 0 }
 
 -- a head whose words stand `by` words further on
 abbrev pub moved : ℕ → Head → Head
 moved by head = record head { from = head.from + by }
 
--- the word of the column at bit `c`: a literal one is kept, those of the columns above it standing before it
+-- the word of the column at bit `c`: a literal one has its own or that of the first column below it that has one, and
+-- those of the columns above it stand before it
 abbrev pub column_word : ℕ → List ℕ → Head → ℕ → ℕ
-column_word present words head c = if has_bit head.literal c then get_or words (head.from + count_ones (head.literal / 2 ^ c / 2)) 0 else (if has_bit head.full c then present else 0)
+column_word present words head c = if has_bit head.literal c then get_or words (head.from + count_ones (head.own / 2 ^ c / 2)) 0 else (if has_bit head.full c then present else 0)
 
 -- the word of a line, from the heads
 abbrev pub line_word : ℕ → List ℕ → List Head → List ℕ → ℕ → ℕ → ℕ
@@ -29,9 +30,10 @@ unpacked width present heads words = record {
   blocks = map (λ block. map (line_word (parts width) present heads words block) (range_with_len 0 (width + 1))) (range_with_len 0 (length present));
 }
 
--- a head's literal words are kept
-abbrev pub IsInside : Head → List ℕ → Type 0
-IsInside head words = head.from + count_ones head.literal ≤ length words
+-- the words of a head's literal columns are kept
+pub record IsInside (head : Head) (words : List ℕ) : Type 0 where
+  pub begins : head.from ≤ length words
+  pub kept : (c : ℕ) → c < 64 → has_bit head.literal c ≡ true → head.from + count_ones (head.own / 2 ^ c / 2) < length words
 
 -- a head for each 64 columns of each block
 pub record ArePacked (width : ℕ) (present : List ℕ) (heads : List Head) (words : List ℕ) : Type 0 where
@@ -43,26 +45,26 @@ pub record ArePacked (width : ℕ) (present : List ℕ) (heads : List Head) (wor
 abbrev pub Begins : {A : Type 0} → List A → List A → Type 0
 Begins old new = take (length old) new ≡ old
 
--- the literal columns from bit `c` up have their words behind the old ones
-pub record AreFilled (old new : List ℕ) (literal c : ℕ) (word : ℕ → ℕ → Bool) : Type 0 where
-  pub long : length new ≡ length old + count_ones (literal / 2 ^ c)
+-- the columns of `own` from bit `c` up have their words behind the old ones
+pub record AreFilled (old new : List ℕ) (own c : ℕ) (word : ℕ → ℕ → Bool) : Type 0 where
+  pub long : length new ≡ length old + count_ones (own / 2 ^ c)
   pub before : Begins old new
-  pub each : (p i : ℕ) → c ≤ p → p < 64 → i < 64 → has_bit literal p ≡ true → has_bit (get_or new (length old + count_ones (literal / 2 ^ p / 2)) 0) i ≡ word p i
+  pub each : (p i : ℕ) → c ≤ p → p < 64 → i < 64 → has_bit own p ≡ true → has_bit (get_or new (length old + count_ones (own / 2 ^ p / 2)) 0) i ≡ word p i
 
--- the first `done` bytes of a plane are those of each key's word, the lowest byte being byte 0
-pub record IsPlane (plane keys : List ℕ) (n part byte done : ℕ) : Type 0 where
-  pub each : (i : ℕ) → i < done → get_or plane i 0 ≡ get_or keys (i * n + part) 0 / 2 ^ (8 * byte) % 256
+-- the first `done` bytes of a plane are those of each key, the lowest byte being byte 0
+pub record IsPlane (plane keys : List ℕ) (byte done : ℕ) : Type 0 where
+  pub each : (i : ℕ) → i < done → get_or plane i 0 ≡ get_or keys i 0 / 2 ^ (8 * byte) % 256
 
 -- a head stands for 64 columns of keys
-pub record IsHead (head : Head) (words keys : List ℕ) (n part taken : ℕ) : Type 0 where
+pub record IsHead (head : Head) (words : List ℕ) (key : ℕ → ℕ) (taken : ℕ) : Type 0 where
   pub inside : IsInside head words
-  pub bits : (c i : ℕ) → c < 64 → i < 64 → has_bit (column_word taken words head c) i ≡ (has_bit taken i && has_bit (get_or keys (i * n + part) 0) c)
+  pub bits : (c i : ℕ) → c < 64 → i < 64 → has_bit (column_word taken words head c) i ≡ (has_bit taken i && has_bit (key i) c)
 
 -- the heads of the first `done` parts are added
 pub record AreHeads (old new : List Head) (words keys : List ℕ) (n done taken : ℕ) : Type 0 where
   pub long : length new ≡ length old + done
   pub before : Begins old new
-  pub each : (part : ℕ) → part < done → IsHead (get_or new (length old + part) no_head) words keys n part taken
+  pub each : (part : ℕ) → part < done → IsHead (get_or new (length old + part) no_head) words (λ i. get_or keys (i * n + part) 0) taken
 
 -- a block of keys is added to the lists that hold blocks, and blocks without a key behind it up to `count` blocks
 pub record AreAdded (present new_present : List ℕ) (heads new_heads : List Head) (words keys : List ℕ) (n taken count : ℕ) : Type 0 where
@@ -70,7 +72,7 @@ pub record AreAdded (present new_present : List ℕ) (heads new_heads : List Hea
   pub first : get_or new_present (length present) 0 ≡ taken
   pub no_rows : (block : ℕ) → length present < block → get_or new_present block 0 ≡ 0
   pub long : length new_heads ≡ count * n
-  pub made : (part : ℕ) → part < n → IsHead (get_or new_heads (length heads + part) no_head) words keys n part taken
+  pub made : (part : ℕ) → part < n → IsHead (get_or new_heads (length heads + part) no_head) words (λ i. get_or keys (i * n + part) 0) taken
   pub no_heads : (k : ℕ) → length heads + n ≤ k → get_or new_heads k no_head ≡ no_head
 
 -- a block of keys is stored, and blocks without a key behind it up to `count` blocks

@@ -8,12 +8,13 @@ use crate::slices::has_bit;
 use std::alloc::AllocError;
 use std::simd::prelude::*;
 
-/// 64 columns of a block, the first column's bit highest. A literal column has a word of its own: those of a head
-/// stand from `from` on, in the order of their columns. Of the others, a full one is set at each row that has a key,
-/// and the rest at none.
+/// 64 columns of a block, the first column's bit highest. A literal column has a word: those of a head stand from `from`
+/// on, in the order of their columns. A column that has no word of `own` has that of the first one below it that has. Of
+/// the columns that aren't literal, a full one is set at each row that has a key, and the rest at none.
 #[derive(Clone, Copy)]
 pub(crate) struct Head {
     pub(crate) literal: u64,
+    pub(crate) own: u64,
     pub(crate) full: u64,
     pub(crate) from: usize,
 }
@@ -26,7 +27,7 @@ impl Head {
         ensures { result ≡ column_word present words.now self.now at }
     {
         if has_bit(self.literal, at) {
-            let above = (self.literal >> at) >> 1;
+            let above = (self.own >> at) >> 1;
             words[self.from + above.count_ones() as usize]
         } else if has_bit(self.full, at) {
             present
@@ -50,50 +51,76 @@ pub(crate) fn apart(literal: u64, full: u64, present: u64, among: u64, key: u64)
     }
 }
 
-/// The bits that any, and those that each of some keys has.
+/// The bits that any, and those that each of some keys has, and those of which any key has not the next higher one too,
+/// or that one alone.
 #[derive(Clone, Copy)]
 struct Shared {
     any: u64,
     each: u64,
+    apart: u64,
 }
 
-/// The bits of the keys that `taken` has. Key `i` has its word at `n` `i` + `part`.
-fn shared_bits(keys: &[u64], n: usize, part: usize, taken: u64) -> Shared
-    requires long { length keys.now ≡ 64 * n }
-    requires narrow { n ≤ 2 ^ 32 }
-    requires part { part < n }
-    ensures any { (c i : ℕ) → c < 64 → i < 64 → has_bit taken i ≡ true → has_bit (get_or keys.now (i * n + part) 0) c ≡ true → has_bit result.any c ≡ true }
-    ensures each { (c i : ℕ) → c < 64 → i < 64 → has_bit taken i ≡ true → has_bit result.each c ≡ true → has_bit (get_or keys.now (i * n + part) 0) c ≡ true }
+/// The bits of 64 keys, of which all count.
+fn shared_by_all(keys: &[u64]) -> Shared
+    requires long { length keys.now ≡ 64 }
+    ensures any { (taken c i : ℕ) → c < 64 → i < 64 → has_bit taken i ≡ true → has_bit (get_or keys.now i 0) c ≡ true → has_bit result.any c ≡ true }
+    ensures each { (taken c i : ℕ) → c < 64 → i < 64 → has_bit taken i ≡ true → has_bit result.each c ≡ true → has_bit (get_or keys.now i 0) c ≡ true }
+    ensures apart { (taken c i : ℕ) → c + 1 < 64 → i < 64 → has_bit taken i ≡ true → has_bit result.apart c ≡ false → has_bit (get_or keys.now i 0) (c + 1) ≡ has_bit (get_or keys.now i 0) c }
     ensures small { result.each < 2 ^ 64 }
+    ensures narrow { result.apart < 2 ^ 64 }
 {
     let mut any = 0;
     let mut each = u64::MAX;
+    let mut apart = 0;
     for i in 0..64 {
-        let key = keys[i * n + part];
+        let key = keys[i];
+        any |= key;
+        each &= key;
+        apart |= key ^ (key >> 1);
+    }
+    Shared { any, each, apart }
+}
+
+/// The bits of the keys that `taken` has.
+fn shared_bits(keys: &[u64], taken: u64) -> Shared
+    requires long { length keys.now ≡ 64 }
+    ensures any { (c i : ℕ) → c < 64 → i < 64 → has_bit taken i ≡ true → has_bit (get_or keys.now i 0) c ≡ true → has_bit result.any c ≡ true }
+    ensures each { (c i : ℕ) → c < 64 → i < 64 → has_bit taken i ≡ true → has_bit result.each c ≡ true → has_bit (get_or keys.now i 0) c ≡ true }
+    ensures apart { (c i : ℕ) → c + 1 < 64 → i < 64 → has_bit taken i ≡ true → has_bit result.apart c ≡ false → has_bit (get_or keys.now i 0) (c + 1) ≡ has_bit (get_or keys.now i 0) c }
+    ensures small { result.each < 2 ^ 64 }
+    ensures narrow { result.apart < 2 ^ 64 }
+{
+    if taken == u64::MAX {
+        return shared_by_all(keys);
+    }
+    let mut any = 0;
+    let mut each = u64::MAX;
+    let mut apart = 0;
+    for i in 0..64 {
+        let key = keys[i];
         if has_bit(taken, i) {
             any |= key;
             each &= key;
+            apart |= key ^ (key >> 1);
         }
     }
-    Shared { any, each }
+    Shared { any, each, apart }
 }
 
-/// Makes `plane` that of a byte of the keys' words, the lowest being byte 0. It is that of byte `made` already.
-fn turn(plane: &mut [u8], keys: &[u64], n: usize, part: usize, byte: usize, made: usize)
+/// Makes `plane` that of a byte of the keys, the lowest being byte 0. It is that of byte `made` already.
+fn turn(plane: &mut [u8], keys: &[u64], byte: usize, made: usize)
     requires size { length plane.old ≡ 64 }
-    requires long { length keys.now ≡ 64 * n }
-    requires narrow { n ≤ 2 ^ 32 }
-    requires part { part < n }
+    requires long { length keys.now ≡ 64 }
     requires byte { byte < 8 }
-    requires before { made < 8 → IsPlane plane.old keys.now n part made 64 }
+    requires before { made < 8 → IsPlane plane.old keys.now made 64 }
     ensures size { length plane.new ≡ 64 }
-    ensures plane { IsPlane plane.new keys.now n part byte 64 }
+    ensures plane { IsPlane plane.new keys.now byte 64 }
 {
     if byte == made {
         return;
     }
     for i in 0..64 {
-        plane[i] = ((keys[i * n + part] >> (8 * byte)) % 256) as u8;
+        plane[i] = ((keys[i] >> (8 * byte)) % 256) as u8;
     }
 }
 
@@ -108,22 +135,13 @@ fn marks(plane: &[u8], at: usize) -> u64
     (v & mark).simd_eq(mark).to_bitmask()
 }
 
-/// Adds the words of the literal columns, the highest first. After a refusal some may stand behind the old words.
-fn fill(
-    words: &mut Vec<u64>,
-    keys: &[u64],
-    n: usize,
-    part: usize,
-    taken: u64,
-    literal: u64,
-) -> Result<(), AllocError>
-    requires long { length keys.now ≡ 64 * n }
-    requires narrow { n ≤ 2 ^ 32 }
-    requires part { part < n }
-    ensures ok { OnOk result (AreFilled words.old.items words.new.items literal 0 (λ c i. has_bit taken i && has_bit (get_or keys.now (i * n + part) 0) c)) }
+/// Adds the words of the columns that `own` has, the highest first. After a refusal some may stand behind the old words.
+fn fill(words: &mut Vec<u64>, keys: &[u64], taken: u64, own: u64) -> Result<(), AllocError>
+    requires long { length keys.now ≡ 64 }
+    ensures ok { OnOk result (AreFilled words.old.items words.new.items own 0 (λ c i. has_bit taken i && has_bit (get_or keys.now i 0) c)) }
     ensures before { Begins words.old.items words.new.items }
 {
-    if literal == 0 {
+    if own == 0 {
         return Ok(());
     }
     let mut plane = [0; 64];
@@ -131,8 +149,8 @@ fn fill(
     let mut at = 64;
     while at > 0 {
         at -= 1;
-        if has_bit(literal, at) {
-            turn(&mut plane, keys, n, part, at / 8, made);
+        if has_bit(own, at) {
+            turn(&mut plane, keys, at / 8, made);
             made = at / 8;
             words.push(marks(&plane, at % 8) & taken)?;
         }
@@ -141,25 +159,19 @@ fn fill(
 }
 
 /// Adds the words of 64 columns of keys, and makes their head. After a refusal some may stand behind the old words.
-pub(crate) fn pack(
-    words: &mut Vec<u64>,
-    keys: &[u64],
-    n: usize,
-    part: usize,
-    taken: u64,
-) -> Result<Head, AllocError>
-    requires long { length keys.now ≡ 64 * n }
-    requires narrow { n ≤ 2 ^ 32 }
-    requires part { part < n }
-    ensures ok { IfOk result (λ h. IsHead h words.new.items keys.now n part taken) }
+pub(crate) fn pack(words: &mut Vec<u64>, keys: &[u64], taken: u64) -> Result<Head, AllocError>
+    requires long { length keys.now ≡ 64 }
+    ensures ok { IfOk result (λ h. IsHead h words.new.items (λ i. get_or keys.now i 0) taken) }
     ensures before { Begins words.old.items words.new.items }
 {
-    let Shared { any, each } = shared_bits(keys, n, part, taken);
+    let Shared { any, each, apart } = shared_bits(keys, taken);
     let literal = any & !each;
+    let own = literal & !((literal & !apart) << 1);
     let from = words.len();
-    fill(words, keys, n, part, taken, literal)?;
+    fill(words, keys, taken, own)?;
     Ok(Head {
         literal,
+        own,
         full: each,
         from,
     })

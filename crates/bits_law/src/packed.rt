@@ -7,6 +7,20 @@ use crate::head::{Head, apart, pack};
 use std::alloc::{AllocError, Global};
 use std::marker::Model;
 
+/// Makes `column` the words of the keys at `part`. Key `i` has its word at `n` `i` + `part`.
+fn gather(column: &mut [u64], keys: &[u64], n: usize, part: usize)
+    requires size { length column.old ≡ 64 }
+    requires long { length keys.now ≡ 64 * n }
+    requires narrow { n ≤ 2 ^ 32 }
+    requires part { part < n }
+    ensures size { length column.new ≡ 64 }
+    ensures same { (i : ℕ) → i < 64 → get_or column.new i 0 ≡ get_or keys.now (i * n + part) 0 }
+{
+    for i in 0..64 {
+        column[i] = keys[i * n + part];
+    }
+}
+
 /// Adds the heads of a block of keys, and the words of their literal columns. After a refusal some may stand behind the
 /// old ones.
 fn add_heads(
@@ -22,8 +36,10 @@ fn add_heads(
     ensures heads { Begins heads.old.items heads.new.items }
     ensures words { Begins words.old.items words.new.items }
 {
+    let mut column = [0; 64];
     for part in 0..n {
-        let head = pack(words, keys, n, part, taken)?;
+        gather(&mut column, keys, n, part);
+        let head = pack(words, &column, taken)?;
         heads.push(head)?;
     }
     Ok(())
@@ -54,6 +70,7 @@ fn add(
     present.resize(count, 0)?;
     let none = Head {
         literal: 0,
+        own: 0,
         full: 0,
         from: 0,
     };

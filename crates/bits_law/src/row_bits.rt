@@ -1,4 +1,4 @@
-ghost use Rattle.std.specs.Prelude.{◌≡◌, ℕ, ◌+◌, ◌-◌, ◌*◌, ◌^◌, ◌<◌, Bool};
+ghost use Rattle.std.specs.Prelude.{◌≡◌, ℕ, ◌+◌, ◌-◌, ◌*◌, ◌^◌, ◌<◌, ◌≤◌, Bool, length, get_or};
 ghost use Rattle.bits_law.specs.Numbers.{has_bit};
 
 /// The bits that a key sets in a table, column by column.
@@ -20,5 +20,16 @@ pub trait RowBits {
             word = 2 * word + self.bit(64 * part + j) as u64;
         }
         word
+    }
+
+    /// Makes `words` the bits of the first columns, 64 in each word, the first column's highest.
+    fn words(&self, words: &mut [u64])
+        requires { length words.old ≤ 2 ^ 57 }
+        ensures long { length words.new ≡ length words.old }
+        ensures bits { (part j : ℕ) → part < length words.old → j < 64 → has_bit (get_or words.new part 0) (63 - j) ≡ bit self.now (64 * part + j) }
+    {
+        for part in 0..words.len() {
+            words[part] = self.word(part);
+        }
     }
 }

@@ -15,9 +15,7 @@ fn write<R: RowBits>(keys: &mut [u64], n: usize, at: usize, key: &R)
     ensures { IsWritten keys.old keys.new n at n (R.bit key.now) }
 {
     let first = at * n;
-    for part in 0..n {
-        keys[first + part] = key.word(part);
-    }
+    key.words(&mut keys[first..first + n]);
 }
 
 /// Rows of keys: blocks of 64 rows, and up to 64 keys behind them that wait to be stored as a block; `taken` says

@@ -1,5 +1,5 @@
 -- Digits in mixed bases, and what is asked of them.
-use Rattle.std.proofs.Common.{◌≡◌, ℕ, zero, suc, ◌+◌, ◌-◌, ◌*◌, ◌/◌, ◌%◌, ◌^◌, ◌<◌, ◌≤◌, Bool, true, false, cond, eqb, ltb, leb, not, ◌&&◌, ◌||◌, List, [], ◌∷◌, length, get_or, take, drop, Option, Result, Ok, Err, IfOk, refl, ap, sym, ◌∙◌, subst, inl, inr, arith}
+use Rattle.std.proofs.Common.{◌≡◌, ℕ, zero, suc, ◌+◌, ◌-◌, ◌*◌, ◌/◌, ◌%◌, ◌^◌, ◌<◌, ◌≤◌, Bool, true, false, cond, eqb, ltb, leb, not, ◌&&◌, ◌||◌, ◌⊎◌, List, [], ◌∷◌, length, get_or, take, drop, Option, Result, Ok, Err, IfOk, refl, ap, sym, ◌∙◌, subst, inl, inr, arith}
 use Rattle.std.proofs.Math.Nat.{div-one, mod-one, mod-eq_of_lt, mod-lt, div-div-eq-div-mul, mul_assoc, mul_comm, mul-le-mul_right}
 use Rattle.std.proofs.Math.Arith.{mod-mul}
 use Rattle.std.proofs.lemmas.Bool.Decides.{nat_tests}
@@ -7,7 +7,7 @@ use Rattle.std.proofs.lemmas.Bool.{cases_lt}
 use Rattle.std.proofs.lemmas.List.{get_or-take, get_or-drop, take_all}
 use Rattle.bits_law.specs.Bitwise.{bitwise, and_not}
 use Rattle.bits_law.specs.Keys.{answers}
-use Rattle.std.specs.Prelude.{bit_and, bit_or}
+use Rattle.std.specs.Prelude.{bit_and}
 use Rattle.std.specs.Int.{bit_not, w64}
 use Rattle.std.proofs.lemmas.Nat.Bits.{bit_at_ones, bit_at_ones_above, ones_shr}
 use Rattle.bits_law.specs.Numbers.{has_bit, holds}
@@ -15,7 +15,7 @@ use Rattle.bits_law.specs.Contents.{Contents}
 use Rattle.bits_law.specs.declared.slices.Order.{Order}
 use Rattle.bits_law.proofs.AnswerLemmas.{answers-same, answers-and, answers-or, answers-and_not}
 use Rattle.bits_law.proofs.BitwiseLemmas.{length-bitwise}
-use Rattle.bits_law.proofs.WordBits.{bit-none, bit-and, bit-or, bit-not}
+use Rattle.bits_law.proofs.WordBits.{bit-none, bit-and, bit-not}
 use Rattle.digit_index.specs.declared.coding.Coding.{Coding}
 use Rattle.digit_index.specs.declared.coding.Coding.TheVariants.{Equality, Range}
 use Rattle.digit_index.specs.Digits.{AreBases, product, columns_of, is_coded, width, digit_bit, Holds, HoldsDigit}
@@ -408,10 +408,25 @@ digit_bit-past coding (b ∷ bs) j key l =
     there : ltb j (columns_of coding b) ≡ false → digit_bit coding (b ∷ bs) j key ≡ digit_bit coding bs (j - columns_of coding b) (key / b)
     there later = rw later refl
 
+-- the columns before a digit's run of ones and behind it
+pub outside_columns : (coding : Coding) (from count digit first end column : ℕ) → first ≡ from + digit → end ≡ cond_of coding (first + 1) (from + count) → (column < first) ⊎ (end ≤ column) → (leb from column && ltb column (from + count) && is_coded coding (column - from) digit) ≡ false
+outside_columns coding from count digit first end column f e out =
+    by_coding coding (subst (λ n. (column < n) ⊎ (cond_of coding (n + 1) (from + count) ≤ column)) f (subst (λ n. (column < first) ⊎ (n ≤ column)) e out))
+  where
+    by_coding : (coding : Coding) → (column < from + digit) ⊎ (cond_of coding (from + digit + 1) (from + count) ≤ column) → (leb from column && ltb column (from + count) && is_coded coding (column - from) digit) ≡ false
+    by_coding Equality (inl l) = grind (arith, nat_tests)
+    by_coding Equality (inr l) = grind (arith, nat_tests)
+    by_coding Range (inl l) = grind (arith, nat_tests)
+    by_coding Range (inr l) = grind (arith, nat_tests)
+
+pub or_false : (x y : Bool) → y ≡ false → x ≡ (x || y)
+or_false true y e = refl
+or_false false y e = sym e
+
 -- the columns of one digit more
-pub word_more : (coding : Coding) (bases : List ℕ) (k key from rest word part column next : ℕ) → k < length bases → next ≡ suc k → from ≡ width coding (take k bases) → rest ≡ key / product (take k bases) → has_bit word (63 - part) ≡ (ltb column from && digit_bit coding bases column key) → (more : ℕ) → has_bit more (63 - part) ≡ (leb from column && ltb column (from + columns_of coding (get_or bases k 0)) && is_coded coding (column - from) (rest % get_or bases k 0)) → has_bit (bit_or word more) (63 - part) ≡ (ltb column (from + columns_of coding (get_or bases k 0)) && digit_bit coding bases column key)
-word_more coding bases k key from rest word part column next l n f r w more m =
-    bit-or word more (63 - part) ∙ ap (λ x. x || has_bit more (63 - part)) w ∙ ap (λ x. (ltb column from && digit_bit coding bases column key) || x) m
+pub word_more : (coding : Coding) (bases : List ℕ) (k key from rest column : ℕ) (old more : Bool) → k < length bases → from ≡ width coding (take k bases) → rest ≡ key / product (take k bases) → old ≡ (ltb column from && digit_bit coding bases column key) → more ≡ (leb from column && ltb column (from + columns_of coding (get_or bases k 0)) && is_coded coding (column - from) (rest % get_or bases k 0)) → (old || more) ≡ (ltb column (from + columns_of coding (get_or bases k 0)) && digit_bit coding bases column key)
+word_more coding bases k key from rest column old more l f r w m =
+    ap (λ x. x || more) w ∙ ap (λ x. (ltb column from && digit_bit coding bases column key) || x) m
     ∙ elim (cases_lt column from) [
       | inl less ↦
           let yes_before : ltb column from ≡ true = grind (arith, nat_tests) in
@@ -438,8 +453,8 @@ word_more coding bases k key from rest word part column next l n f r w more m =
     or_none true = refl
     or_none false = refl
 
-pub word_all : (coding : Coding) (bases : List ℕ) (k key from word part column : ℕ) → length bases ≤ k → from ≡ width coding (take k bases) → has_bit word (63 - part) ≡ (ltb column from && digit_bit coding bases column key) → has_bit word (63 - part) ≡ digit_bit coding bases column key
-word_all coding bases k key from word part column l f w =
+pub word_all : (coding : Coding) (bases : List ℕ) (k key from column : ℕ) (old : Bool) → length bases ≤ k → from ≡ width coding (take k bases) → old ≡ (ltb column from && digit_bit coding bases column key) → old ≡ digit_bit coding bases column key
+word_all coding bases k key from column old l f w =
     w ∙ elim (cases_lt column from) [
       | inl less ↦ let before : ltb column from ≡ true = grind (arith, nat_tests) in ap (λ x. x && digit_bit coding bases column key) before
       | inr past ↦

@@ -1,4 +1,4 @@
-ghost use Rattle.std.specs.Prelude.{◌≡◌, ℕ, ◌+◌, ◌-◌, ◌<◌, ◌≤◌, ◌*◌, ◌^◌, ◌&&◌, length, nat_le, nat_lt};
+ghost use Rattle.std.specs.Prelude.{◌≡◌, ℕ, ◌+◌, ◌-◌, ◌<◌, ◌≤◌, ◌*◌, ◌^◌, ◌&&◌, ◌||◌, length, get_or, nat_le, nat_lt};
 ghost use Rattle.bits_law.specs.Numbers.{has_bit};
 ghost use Rattle.digit_index.specs.declared.coding.Coding.TheVariants.{Equality};
 ghost use Rattle.digit_index.specs.Digits.{AreBases, columns_of, is_coded, width, digit_bit};
@@ -73,40 +73,44 @@ fn ones_from(at: usize) -> u64
     if at < 64 { u64::MAX >> at } else { 0 }
 }
 
-/// The columns of a digit among the 64 from `start` on, the first column's bit highest. The digit has `count` columns
-/// from `from` on.
-fn digit_part(coding: Coding, start: usize, from: usize, count: usize, digit: usize) -> u64
+/// Sets the bits of a digit's columns in words of 64 columns, the first column's bit highest. The digit has `count`
+/// columns from `from` on.
+fn add_digit(words: &mut [u64], coding: Coding, from: usize, count: usize, digit: usize)
     requires room { from + count ≤ 4096 }
     requires small { digit ≤ 256 }
     requires within { coding ≡ Equality → digit < count }
-    ensures { (j : ℕ) → j < 64 → has_bit result (63 - j) ≡ (nat_le from (start + j) && nat_lt (start + j) (from + count) && is_coded coding (start + j - from) digit) }
+    requires long { length words.old ≤ 2 ^ 57 }
+    ensures long { length words.new ≡ length words.old }
+    ensures bits { (part j : ℕ) → part < length words.old → j < 64 → has_bit (get_or words.new part 0) (63 - j) ≡ (has_bit (get_or words.old part 0) (63 - j) || (nat_le from (64 * part + j) && nat_lt (64 * part + j) (from + count) && is_coded coding (64 * part + j - from) digit)) }
 {
     let first = from + digit;
     let end = match coding {
         Coding::Equality => first + 1,
         Coding::Range => from + count,
     };
-    ones_from(first.saturating_sub(start)) & !ones_from(end.saturating_sub(start))
+    for part in first / 64..words.len().min((end + 63) / 64) {
+        let start = 64 * part;
+        words[part] |= ones_from(first.saturating_sub(start)) & !ones_from(end.saturating_sub(start));
+    }
 }
 
-/// The columns of all digits among the 64 from 64 `part` on, the first column's bit highest.
-fn digit_word(coding: Coding, bases: &Bases, part: usize, key: u64) -> u64
-    requires { part < 2 ^ 57 }
-    ensures { (j : ℕ) → j < 64 → has_bit result (63 - j) ≡ digit_bit coding bases.now (64 * part + j) key }
+/// Makes `words` the bits of all digits' columns, 64 in each word, the first column's bit highest.
+fn digit_words(words: &mut [u64], coding: Coding, bases: &Bases, key: u64)
+    requires { length words.old ≤ 2 ^ 57 }
+    ensures long { length words.new ≡ length words.old }
+    ensures bits { (part j : ℕ) → part < length words.old → j < 64 → has_bit (get_or words.new part 0) (63 - j) ≡ digit_bit coding bases.now (64 * part + j) key }
 {
+    words.fill(0);
     let bases = bases.as_slice();
-    let start = 64 * part;
-    let mut word = 0;
     let mut from = 0;
     let mut rest = key;
     for k in 0..bases.len() {
         let base = bases[k] as u64;
         let count = columns_of(coding, bases[k]);
-        word |= digit_part(coding, start, from, count, (rest % base) as usize);
+        add_digit(words, coding, from, count, (rest % base) as usize);
         from += count;
         rest /= base;
     }
-    word
 }
 
 /// The bits that a key sets.
@@ -124,7 +128,7 @@ impl<'a> RowBits for DigitKey<'a> {
         digit_bit(self.coding, self.bases, column, self.key)
     }
 
-    fn word(&self, part: usize) -> u64 {
-        digit_word(self.coding, self.bases, part, self.key)
+    fn words(&self, words: &mut [u64]) {
+        digit_words(words, self.coding, self.bases, self.key);
     }
 }

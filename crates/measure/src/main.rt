@@ -3,17 +3,20 @@
 
 mod batches;
 mod bitmaps;
+mod indexes;
 mod packets;
 mod turns;
 
 use bitmaps::Spent;
+use bits_law::Order;
+use indexes::{Plan, Work};
 use runs_bitmap::RunsBitmap;
 use std::process::ExitCode;
 use std::{env, io};
 use word_bitmap::WordBitmap;
 
 const USAGE: &str =
-    "measure turns THREADS TURNS, decode PACKETS, bitmaps BITS ONE_IN, batches ROWS ENCODES UNPACKS";
+    "measure turns THREADS TURNS, decode PACKETS, bitmaps BITS ONE_IN, batches ROWS ENCODES UNPACKS, indexes WORK RELATION COLUMN END ROWS PART TIMES";
 
 fn main(rt: HostRuntime) -> anyhow::Result<ExitCode> {
     let mut words = env::args(&rt)?;
@@ -63,8 +66,55 @@ fn main(rt: HostRuntime) -> anyhow::Result<ExitCode> {
             }
         }
     }
+    if what == Some("indexes") {
+        let work = words.next().and_then(|word| work(word.as_str()));
+        let rel = words.next().and_then(|word| relation(word.as_str()));
+        let first = words.next().and_then(|word| word.parse().ok());
+        let end = words.next().and_then(|word| word.parse().ok());
+        let rows = words.next().and_then(|word| word.parse().ok());
+        let part = words.next().and_then(|word| word.parse().ok());
+        let times = words.next().and_then(|word| word.parse().ok());
+        if let (Some(work), Some(rel), Some(first), Some(end)) = (work, rel, first, end) {
+            if let (Some(rows), Some(part), Some(times)) = (rows, part, times) {
+                let plan = Plan {
+                    rows,
+                    part,
+                    work,
+                    times,
+                    rel,
+                };
+                for column in first..end {
+                    if let Ok(told) = indexes::measure::<WordBitmap>(rt.alloc(), column, &plan) {
+                        println!(rt; "column {column} {told}")?;
+                    }
+                }
+                return Ok(ExitCode::SUCCESS);
+            }
+        }
+    }
     println!(rt; "usage: {USAGE}")?;
     Ok(ExitCode::from(1))
+}
+
+// The work that a word names.
+fn work(word: &str) -> Option<Work> {
+    match word {
+        "make" => Some(Work::Make),
+        "put" => Some(Work::Put),
+        "append" => Some(Work::Append),
+        "ask" => Some(Work::AskWhole),
+        "ask-parts" => Some(Work::AskParts),
+        _ => None,
+    }
+}
+
+// The relation that a word names.
+fn relation(word: &str) -> Option<Order> {
+    match word {
+        "eq" => Some(Order::Eq),
+        "ge" => Some(Order::Ge),
+        _ => None,
+    }
 }
 
 // The lines of one form.

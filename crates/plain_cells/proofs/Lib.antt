@@ -3,6 +3,7 @@ pub mod DigitLemmas
 pub mod FrontLemmas
 pub mod GapLemmas
 pub mod LaneLemmas
+pub mod NumberLemmas
 pub mod OctetLemmas
 pub mod OwnAddressLemmas
 pub mod OwnLemmas

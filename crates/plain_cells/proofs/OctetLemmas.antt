@@ -1,10 +1,14 @@
 -- Four octets with points between them.
-use Rattle.std.proofs.Common.{◌≡◌, ℕ, ◌+◌, ◌-◌, ◌*◌, ◌^◌, ◌<◌, ◌≤◌, Bool, true, false, eqb, List, [], ◌∷◌, ◌++◌, Option, None, Some, length, take, drop, get_or, refl, ap, ap₂, sym, ◌∙◌, subst, arith, inl, inr}
+use Rattle.std.proofs.Common.{◌≡◌, ℕ, ◌+◌, ◌-◌, ◌*◌, ◌^◌, ◌<◌, ◌≤◌, Bool, true, false, eqb, List, [], ◌∷◌, ◌++◌, Option, None, Some, length, take, drop, get_or, refl, ap, ap₂, sym, ◌∙◌, subst, arith, inl, inr, zero, suc, ◌/◌, cond, not, map}
+use Rattle.std.proofs.Math.Nat.{div-div-eq-div-mul, pow-succ', zero-div}
+use Rattle.plain_cells.proofs.LaneLemmas.{all_before, first_other}
+use lib.Lanes.{mask_l}
+use lib.Count.{count_trailing_zeros}
 use Rattle.std.specs.Prelude.{IsSome}
-use Rattle.std.proofs.lemmas.Bool.{and_parts, le-leb, cases_eq, or_from, or_parts}
-use Rattle.std.proofs.lemmas.List.{length-take-le, length-drop}
+use Rattle.std.proofs.lemmas.Bool.{and_parts, le-leb, cases_eq, or_from, or_parts, cond-false, ne_eqb}
+use Rattle.std.proofs.lemmas.List.{length-take-le, length-drop, drop-map, drop-take}
 use Rattle.std.proofs.lemmas.List.Folds.{list_any-append}
-use Rattle.std.specs.List.{list_all, list_any, slice_split}
+use Rattle.std.specs.List.{list_all, list_any, slice_split, prefix_len}
 use Rattle.std.specs.Option.{option_map, option_and_then, option_or, is_some}
 use Rattle.value_reading.specs.Addresses.{short_number, octets, dotted_of, address_of, mapped, grouped_of}
 use Rattle.value_reading.specs.Numbers.{is_digit, is_point}
@@ -121,6 +125,59 @@ dotted_read text a b c end o =
       subst (λ (l : List ℕ). IsSome (address_of l)) (sym parts) (address_some (dotted_of (four w x y z)) (grouped_of (four w x y z)) some),
       subst (λ (l : List ℕ). has_none l) (sym parts) none,
     )
+
+-- the bits of a mask from so many on
+mask_drop : (k : ℕ) (ms : List Bool) → mask_l ms / 2 ^ k ≡ mask_l (drop k ms)
+mask_drop zero ms = omega arith
+mask_drop (suc k) [] = zero-div (2 ^ suc k)
+mask_drop (suc k) (b ∷ bs) =
+    let m : ℕ = mask_l bs in
+    let power : 2 ^ suc k ≡ 2 * 2 ^ k = pow-succ' 2 k in
+    elim b as (λ t. (cond t 1 0 + 2 * m) / 2 ^ suc k ≡ mask_l (drop k bs)) [
+      | true ↦
+          let half : (1 + 2 * m) / 2 ≡ m = omega arith in
+          ap (λ (n : ℕ). (1 + 2 * m) / n) power ∙ sym (div-div-eq-div-mul (1 + 2 * m) 2 (2 ^ k)) ∙ ap (λ (h : ℕ). h / 2 ^ k) half
+          ∙ mask_drop k bs
+      | false ↦
+          let half : (0 + 2 * m) / 2 ≡ m = omega arith in
+          ap (λ (n : ℕ). (0 + 2 * m) / n) power ∙ sym (div-div-eq-div-mul (0 + 2 * m) 2 (2 ^ k)) ∙ ap (λ (h : ℕ). h / 2 ^ k) half
+          ∙ mask_drop k bs
+    ]
+
+abbrev others_of : List ℕ → ℕ
+others_of bytes = mask_l (map (λ b. not (is_digit b)) bytes)
+
+pub marks_behind : (others : ℕ) (text : List ℕ) (at : ℕ) → at < 16 → others ≡ mask_l (map (λ b. not (is_digit b)) (take 16 text))
+    → others / 2 ^ at ≡ mask_l (map (λ b. not (is_digit b)) (take (16 - at) (drop at text)))
+marks_behind others text at few is =
+    let parts : 16 ≡ at + (16 - at) = omega arith in
+    ap (λ (m : ℕ). m / 2 ^ at) is ∙ mask_drop at (map (λ b. not (is_digit b)) (take 16 text))
+    ∙ ap mask_l (drop-map (λ b. not (is_digit b)) at (take 16 text))
+    ∙ ap (λ (n : ℕ). others_of (drop at (take n text))) parts ∙ ap others_of (drop-take at (16 - at) text)
+
+no_trailing : count_trailing_zeros 64 0 ≡ 64
+unfolding count_trailing_zeros
+no_trailing = refl
+
+-- the digits before the first mark
+pub octet_marks : (text rest : List ℕ) (at others count : ℕ) → others ≡ mask_l (map (λ b. not (is_digit b)) (take (16 - at) (drop at text)))
+    → rest ≡ drop at text → at + 16 ≤ length text → at < 16 → count ≡ count_trailing_zeros 64 others → count ≤ 3 → AreDigits rest count
+octet_marks text rest at others count marks back room few is low =
+    let v : List ℕ = take (16 - at) rest in
+    let same : others ≡ others_of v = marks ∙ ap (λ (l : List ℕ). others_of (take (16 - at) l)) (sym back) in
+    let all : length rest ≡ length text - at = ap length back ∙ length-drop at text in
+    let long : length v ≡ 16 - at = length-take-le (16 - at) rest (omega (arith, all)) in
+    let led : count ≤ prefix_len is_digit v =
+    elim (cases_eq others 0) [
+      | inl none ↦
+          let past : count ≡ 64 = is ∙ ap (count_trailing_zeros 64) none ∙ no_trailing in
+          absurd (omega (arith, past, low))
+      | inr some ↦
+          let first = sym (cond-false (eqb others 0) (16 - at) (count_trailing_zeros 64 others) (ne_eqb others 0 some))
+          ∙ first_other is_digit v (16 - at) others long (omega arith) same in
+          omega (arith, is, first)
+    ] in
+    record { digits = all_before is_digit (16 - at) count rest led; long = length-take-le count rest (omega (arith, all)) }
 
 pub octet_led : (text rest : List ℕ) (at led : ℕ) → at + 16 ≤ length text → rest ≡ drop at text → AreDigits rest led → 0 < led → led ≤ 3
     → (led ≡ 3 → (get_or rest 0 0 * 10 + get_or rest 1 0) * 10 + get_or rest 2 0 ≤ 5583) → IsOctet text at (at + led)

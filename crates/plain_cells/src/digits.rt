@@ -16,7 +16,7 @@ const HIGHEST_PORT: u32 = 65_535 + 48 * 11_111;
 
 // Which of the first 16 bytes are no digits, the bit of the first being the lowest.
 #[inline(always)]
-fn other_marks(text: &[u8]) -> u64
+pub(crate) fn other_marks(text: &[u8]) -> u64
     requires { 16 ≤ length text.now }
     ensures { result ≡ mask_l (map (λ b. not (is_digit b)) (take 16 text.now)) }
 {

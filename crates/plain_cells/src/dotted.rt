@@ -1,10 +1,12 @@
 //! Addresses in the dotted form.
-ghost use Rattle.std.specs.Prelude.{◌≡◌, ◌+◌, ◌-◌, ◌*◌, ◌<◌, ◌≤◌, length, take, IsTrue, IfSome, slice_index};
+ghost use Rattle.std.specs.Prelude.{◌≡◌, ◌+◌, ◌-◌, ◌*◌, ◌<◌, ◌≤◌, not, length, map, take, drop, IsTrue, IfSome, slice_index};
+ghost use Rattle.std.specs.Simd.Lanes.{mask_l};
+ghost use Rattle.value_reading.specs.Numbers.{is_digit};
 ghost use Rattle.plain_cells.specs.Octets.{IsOctet, AreOctets};
 ghost use Rattle.plain_cells.specs.Own.{IsOwnText};
 ghost use Rattle.plain_cells.specs.Readable.{IsReadable};
 
-use crate::digits::leading_digits;
+use crate::digits::other_marks;
 use crate::own::has_no_leading_zero;
 use vast_value::{Elem, Kind};
 
@@ -29,28 +31,44 @@ fn is_octet(text: &[u8], count: usize) -> bool
     sum <= HIGHEST_OCTET
 }
 
-// Where an octet ends that begins at `at`.
+// The marks of the bytes from `at` on, by those of the first 16.
 #[inline(always)]
-fn octet_end(text: &[u8], at: usize) -> Option<usize>
-    requires { at + 16 ≤ length text.now }
+#[tactic(auto, using(crate::proofs::OctetLemmas::marks_behind))]
+fn marks_from(others: u64, text: &[u8], at: usize) -> u64
+    requires few { at < 16 }
+    requires marks { others ≡ mask_l (map (λ b. not (is_digit b)) (take 16 text.now)) }
+    ensures { result ≡ mask_l (map (λ b. not (is_digit b)) (take (16 - at) (drop at text.now))) }
+{
+    others >> at
+}
+
+// Where an octet ends that begins at `at`, and before the last of the first 16 bytes. `others` marks which of these are no
+// digits, from that place on.
+#[inline(always)]
+fn octet_end(text: &[u8], at: usize, others: u64) -> Option<usize>
+    requires room { at + 16 ≤ length text.now }
+    requires few { at < 16 }
+    requires marks { others ≡ mask_l (map (λ b. not (is_digit b)) (take (16 - at) (drop at text.now))) }
     ensures { IfSome result (λ end. IsOctet text.now at end) }
 {
+    let count = others.trailing_zeros() as usize;
     let (_, rest) = text.split_at(at);
-    let count = leading_digits(rest);
     if !is_octet(rest, count) {
         return None;
     }
     Some(at + count)
 }
 
-// Where the point behind an octet is that begins at `at`.
+// Where the point behind an octet is that begins at `at`, by the marks of the first 16 bytes.
 #[inline(always)]
-fn point_behind(text: &[u8], at: usize) -> Option<usize>
-    requires { at + 16 ≤ length text.now }
+fn point_behind(text: &[u8], at: usize, others: u64) -> Option<usize>
+    requires room { at + 16 ≤ length text.now }
+    requires few { at < 16 }
+    requires marks { others ≡ mask_l (map (λ b. not (is_digit b)) (take 16 text.now)) }
     ensures octet { IfSome result (λ end. IsOctet text.now at end) }
     ensures point { IfSome result (λ end. slice_index text.now end ≡ 46) }
 {
-    let end = octet_end(text, at)?;
+    let end = octet_end(text, at, marks_from(others, text, at))?;
     if text[end] != b'.' {
         return None;
     }
@@ -64,10 +82,11 @@ fn points(text: &[u8], count: usize) -> Option<(usize, usize, usize)>
     requires { 32 ≤ length text.now }
     ensures { IfSome result (λ p. AreOctets text.now p.0 p.1 p.2 count) }
 {
-    let a = point_behind(text, 0)?;
-    let b = point_behind(text, a + 1)?;
-    let c = point_behind(text, b + 1)?;
-    let end = octet_end(text, c + 1)?;
+    let others = other_marks(text);
+    let a = point_behind(text, 0, others)?;
+    let b = point_behind(text, a + 1, others)?;
+    let c = point_behind(text, b + 1, others)?;
+    let end = octet_end(text, c + 1, marks_from(others, text, c + 1))?;
     if end != count {
         return None;
     }

@@ -10,6 +10,7 @@ mod digits;
 mod dotted;
 mod groups;
 mod laws;
+mod numbers;
 mod own;
 mod places;
 mod seconds;
@@ -22,6 +23,7 @@ pub use groups::is_plain_groups;
 pub use laws::{
     marks_are_readable, marks_stand_as_written, pieces_stand_between, texts_are_readable,
 };
+pub use numbers::plain_number;
 pub use own::is_own_number;
 pub use places::{byte_places, line_places};
 pub use seconds::{is_own_time, is_plain_time};

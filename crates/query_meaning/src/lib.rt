@@ -17,7 +17,8 @@ pub use laws::{
     clash_holds_of_nothing, members_and_not, order_is_total, picks_by_column, subnets_hold,
     sure_is_match, texts_hold,
 };
-pub use meaning::holds;
+pub use meaning::{holds, is_of};
+pub use picks::is_named;
 pub use relations::{goes_with, meets, text_meets};
 pub use resolved::{Resolved, ResolvedTest};
 pub use resolving::resolve;

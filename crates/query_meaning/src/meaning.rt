@@ -68,7 +68,8 @@ fn kind_meets(test: &Test, columns: &[Column], cells: &[Cell], elem: Elem) -> bo
     false
 }
 
-pub(crate) fn is_of(elem: Elem, kind: Kind) -> bool
+/// Whether columns of this kind have single values of that one: what a pick of a kind chooses.
+pub fn is_of(elem: Elem, kind: Kind) -> bool
     ensures { result ≡ is_of elem kind }
 {
     match kind {

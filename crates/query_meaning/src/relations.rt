@@ -4,12 +4,13 @@ ghost use Rattle.std.specs.List.{list_any};
 ghost use Rattle.std.specs.Str.{bytes_eq};
 ghost use Rattle.vast_value.specs.declared.cell.Cell.TheVariants as cell;
 ghost use Rattle.vast_value.specs.declared.value.Value.TheVariants as value;
+ghost use Rattle.vast_value.specs.Views.{number_cell};
 ghost use Rattle.query_meaning.specs.Relations.{goes_with, takes_transport, equals, order_to, differs, is_less, is_greater, is_equal, holds_address, holds_net, lies_in, has_text, has, equals_element, value_meets, elements_meet, nil_meets, literal_meets, meets, is_unset};
 
 use crate::expr::{Literal, Rel};
 use memchr::memmem;
 use std::cmp::Ordering;
-use vast_value::{Bytes, Cell, Elem, Net, Transport, Value};
+use vast_value::{Bytes, Cell, Elem, Net, PlainNumber, Transport, Value};
 
 /// Whether a cell meets a relation to a literal.
 ///
@@ -21,6 +22,28 @@ pub fn meets(rel: Rel, literal: &Literal, cell: &Cell) -> bool
     match literal {
         Literal::Nil => nil_meets(rel, cell),
         Literal::Of(value) => literal_meets(rel, value, cell),
+    }
+}
+
+/// Whether a cell that is a plain number meets a relation to a literal.
+pub fn number_meets(rel: Rel, literal: &Literal, number: PlainNumber) -> bool
+    ensures { result ≡ meets rel literal.now (number_cell number) }
+{
+    match literal {
+        Literal::Nil => matches!(rel, Rel::Ne),
+        Literal::Of(value) => value_meets(rel, value, &value_of(number)),
+    }
+}
+
+fn value_of(number: PlainNumber) -> Value
+    ensures { cell.One result ≡ number_cell number }
+{
+    match number {
+        PlainNumber::Count(n) => Value::Count(n),
+        PlainNumber::Port(number) => Value::Port {
+            number,
+            over: Transport::Unknown,
+        },
     }
 }
 

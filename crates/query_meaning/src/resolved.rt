@@ -4,10 +4,10 @@ ghost use Rattle.std.specs.List.{list_any};
 ghost use Rattle.query_meaning.specs.Resolving.{is_met_by, resolved_holds, resolved_test};
 
 use crate::expr::{Literal, Rel};
-use crate::relations::meets;
+use crate::relations::{meets, number_meets};
 use sqlite_items::{Boxed, Items};
 use std::alloc::{AllocError, Global};
-use vast_value::RowView;
+use vast_value::{RowView, Value};
 
 /// A query with its columns chosen for one layout.
 #[derive(Drop)]
@@ -87,11 +87,34 @@ fn some_meets<R: RowView>(
     ensures { IfOk result (λ held. held ≡ list_any (λ n. is_met_by rel literal.now (slice_get (R.cells row.now) n)) columns.now) }
 {
     for column in columns {
-        if let Some(cell) = row.cell(alloc, *column)? {
-            if meets(rel, literal, cell.get()) {
-                return Ok(true);
-            }
+        if is_met_at(alloc, *column, rel, literal, row)? {
+            return Ok(true);
         }
     }
     Ok(false)
+}
+
+fn is_met_at<R: RowView>(
+    alloc: Global,
+    column: usize,
+    rel: Rel,
+    literal: &Literal,
+    row: &R,
+) -> Result<bool, AllocError>
+    ensures { IfOk result (λ held. held ≡ is_met_by rel literal.now (slice_get (R.cells row.now) column)) }
+{
+    if is_number(literal) {
+        if let Some(number) = row.plain_number(column) {
+            return Ok(number_meets(rel, literal, number));
+        }
+    }
+    match row.cell(alloc, column)? {
+        Some(cell) => Ok(meets(rel, literal, cell.get())),
+        None => Ok(false),
+    }
+}
+
+/// Whether a literal is of a kind whose cells may be plain numbers.
+fn is_number(literal: &Literal) -> bool {
+    matches!(literal, Literal::Of(Value::Count(_) | Value::Port { .. }))
 }

@@ -1,7 +1,8 @@
 -- What a string index answers.
-use Rattle.std.proofs.Common.{◌≡◌, ℕ, suc, ◌+◌, ◌-◌, ◌*◌, ◌/◌, ◌%◌, ◌^◌, ◌<◌, ◌≤◌, Bool, true, false, eqb, leb, ◌&&◌, List, [], length, get_or, take, drop, Option, Result, Ok, Err, IfOk, refl, ap, sym, ◌∙◌, inl, inr, arith}
+use Rattle.std.proofs.Common.{◌≡◌, ◌≢◌, ℕ, zero, suc, ◌+◌, ◌-◌, ◌*◌, ◌/◌, ◌%◌, ◌^◌, ◌<◌, ◌≤◌, Bool, true, false, eqb, leb, ◌&&◌, List, [], length, get_or, take, drop, Option, Result, Ok, Err, IfOk, refl, ap, sym, ◌∙◌, subst, inl, inr, arith}
 use Rattle.std.proofs.Math.Nat.{div-one, mod-eq_of_lt, pow-le-pow_right}
-use Rattle.std.proofs.lemmas.Bool.{cases_lt}
+use Rattle.std.proofs.lemmas.Bool.{cases_lt, cases_eq}
+use Rattle.std.proofs.lemmas.Bool.Decides.{nat_tests}
 use Rattle.std.proofs.lemmas.List.{get_or-take, get_or_past, length-take}
 use Rattle.std.proofs.lemmas.Nat.{pow-add}
 use Rattle.std.proofs.lemmas.Nat.Bits.{bit_at_cat_low, bit_at_cat_high}
@@ -9,11 +10,11 @@ use Rattle.bits_law.specs.Keys.{answers}
 use Rattle.bits_law.specs.Numbers.{number_at, holds, has_bit, IsAnswer}
 use Rattle.bits_law.specs.Contents.{Contents}
 use Rattle.bits_law.specs.declared.slices.Order.{Order}
-use Rattle.bits_law.specs.declared.slices.Order.TheVariants.{Eq, Ge}
+use Rattle.bits_law.specs.declared.slices.Order.TheVariants.{Ge}
 use Rattle.bits_law.proofs.AnswerLemmas.{asked_slices, answers-same, answers-and_not}
 use Rattle.std.proofs.Common.{cond, not}
 use Rattle.bits_law.specs.Bitwise.{bitwise, and_not}
-use Rattle.string_index.specs.Texts.{short_length, text_unit, text_bit, agree, same_start, Holds}
+use Rattle.string_index.specs.Texts.{short_length, text_unit, units, text_bit, agree, IsText, same_start, Holds}
 
 -- the eight columns of a unit
 unit_bits : (keys : List (Option (List ℕ))) (table : Contents) (unit j : ℕ) → unit < 9 → j < 8 → Holds table keys → get_or table.columns (8 * unit + j) [] ≡ answers (λ key. eqb (text_unit unit key / 2 ^ (0 + (8 - 1 - j)) % 2) 1) keys
@@ -106,11 +107,64 @@ and_assoc : (x y z : Bool) → ((x && y) && z) ≡ (x && (y && z))
 and_assoc true y z = refl
 and_assoc false y z = refl
 
--- the rows whose length agrees, before any byte is compared
-pub start_none : (keys : List (Option (List ℕ))) (table : Contents) (text : List ℕ) (key : ℕ) (answer : List Bool) → length table.columns ≡ 72 → key ≡ short_length text → Holds table keys → IsAnswer answer table.present (λ row. eqb (number_at (take 8 (drop 0 table.columns)) row) key) → answer ≡ answers (λ t. eqb (short_length t) (short_length text) && agree 0 t text) keys
-start_none keys table text key answer w e h a =
-    asked_length keys table Eq key answer w h a
-    ∙ answers-same (λ t. eqb (short_length t) key) (λ t. eqb (short_length t) (short_length text) && agree 0 t text) keys (λ row t l q. ap (eqb (short_length t)) e ∙ and_true (eqb (short_length t) (short_length text)))
+-- the first units as one number
+unit_small : (text : List ℕ) (k : ℕ) → k < 8 → IsText text → text_unit k text < 256
+unit_small text zero l is = omega arith
+unit_small text (suc k) l is = omega (arith, get_or-take 8 text k 0 (omega arith), is k)
+
+units_small : (text : List ℕ) (k : ℕ) → k ≤ 8 → IsText text → units k text < 2 ^ (8 * k)
+units_small text zero l is = omega arith
+units_small text (suc k) l is =
+    let more : k + 1 ≡ suc k = omega arith in
+    subst (λ n. units (suc k) text < 2 ^ (8 * n)) more (unit_more_small (units k text) (text_unit k text) k (units_small text k (omega arith) is) (unit_small text k (omega arith) is) (omega arith)).0
+
+units_bits : (text : List ℕ) (k : ℕ) → k ≤ 8 → IsText text → (j : ℕ) → j < 8 * k → has_bit (units k text) (8 * k - 1 - j) ≡ has_bit (text_unit (8 * 0 + j / 8) text) (7 - j % 8)
+units_bits text zero l is j u = absurd (omega arith)
+units_bits text (suc k) l is j u =
+    let more : k + 1 ≡ suc k = omega arith in
+    ap (λ n. has_bit (units (suc k) text) (8 * n - 1 - j)) (sym more)
+    ∙ unit_more text 0 (units k text) (text_unit k text) k j (unit_small text k (omega arith) is) (ap (λ n. text_unit n text) (let at : k ≡ 8 * 0 + k = omega arith in at)) (units_bits text k (omega arith) is) (omega (arith, u))
+
+units_bit : (text : List ℕ) (j : ℕ) → j < 64 → IsText text → has_bit (units 8 text) (63 - j) ≡ text_bit j text
+units_bit text j l is = unit_all text 0 (units 8 text) 8 j refl l (units_bits text 8 (omega arith) is) ∙ ap (λ n. text_bit n text) (let at : 64 * 0 + j ≡ j = omega arith in at)
+
+pair_equal : (x y u v : ℕ) → u < 256 → v < 256 → eqb (x * 256 + u) (y * 256 + v) ≡ (eqb x y && eqb u v)
+pair_equal x y u v l m = elim (cases_eq x y) [
+  | inl same ↦ elim (cases_eq u v) [
+    | inl too ↦ grind (arith, nat_tests)
+    | inr other ↦ grind (arith, nat_tests)
+  ]
+  | inr other ↦
+      let differ : x * 256 + u ≢ y * 256 + v = λ e. other (omega arith) in
+      grind (arith, nat_tests)
+]
+
+units_equal : (a b : List ℕ) (k : ℕ) → k < 8 → IsText a → IsText b → eqb (units (suc k) a) (units (suc k) b) ≡ (eqb (short_length a) (short_length b) && agree k a b)
+units_equal a b zero l p q = pair_equal 0 0 (short_length a) (short_length b) (omega arith) (omega arith) ∙ and_true (eqb (short_length a) (short_length b))
+units_equal a b (suc k) l p q =
+    pair_equal (units (suc k) a) (units (suc k) b) (text_unit (suc k) a) (text_unit (suc k) b) (unit_small a (suc k) l p) (unit_small b (suc k) l q)
+    ∙ ap (λ x. x && eqb (text_unit (suc k) a) (text_unit (suc k) b)) (units_equal a b k (omega arith) p q)
+    ∙ ap (λ n. (eqb (short_length a) (short_length b) && agree k a b) && eqb n (text_unit (suc k) b)) (get_or-take 8 a k 0 (omega arith))
+    ∙ ap (λ n. (eqb (short_length a) (short_length b) && agree k a b) && eqb (get_or a k 0) n) (get_or-take 8 b k 0 (omega arith))
+    ∙ and_assoc (eqb (short_length a) (short_length b)) (agree k a b) (eqb (get_or a k 0) (get_or b k 0))
+
+-- the rows whose length and first seven bytes agree
+pub start_seven : (keys : List (Option (List ℕ))) (table : Contents) (text : List ℕ) (key : ℕ) (answer : List Bool) → length table.columns ≡ 72 → IsText text → key ≡ units 8 text → Holds table keys → IsAnswer answer table.present (λ row. eqb (number_at (take 64 (drop 0 table.columns)) row) key) → answer ≡ answers (λ t. eqb (short_length t) (short_length text) && agree 7 t text) keys
+start_seven keys table text key answer w is e h a =
+    asked_slices keys table.columns 0 0 64 (units 8) (λ _. true) (λ n. eqb n key) answer table.present (omega (arith, w)) column h.stands.present a
+    ∙ answers-same (λ t. eqb (units 8 t / 2 ^ 0 % 2 ^ 64) key) (λ t. eqb (short_length t) (short_length text) && agree 7 t text) keys (λ row t l q.
+    ap (λ n. eqb n key) (word_is (units 8 t) (units_small t 8 (omega arith) (h.each row t q))) ∙ ap (eqb (units 8 t)) e ∙ units_equal t text 7 (omega arith) (h.each row t q) is)
+  where
+    word_is : (n : ℕ) → n < 2 ^ 64 → n / 2 ^ 0 % 2 ^ 64 ≡ n
+    word_is n l = ap (λ m. m % 2 ^ 64) (div-one n) ∙ mod-eq_of_lt l
+
+    column : (j : ℕ) → j < 64 → get_or table.columns (0 + j) [] ≡ answers (λ t. eqb (units 8 t / 2 ^ (0 + (64 - 1 - j)) % 2) 1) keys
+    column j l =
+        let at : 0 + j ≡ j = omega arith in
+        let place : 63 - j ≡ 0 + (64 - 1 - j) = omega arith in
+        ap (λ i. get_or table.columns i []) at ∙ h.stands.column j (omega arith)
+        ∙ answers-same (text_bit j) (λ t. eqb (units 8 t / 2 ^ (0 + (64 - 1 - j)) % 2) 1) keys (λ row t u q.
+        sym (units_bit t j l (h.each row t q)) ∙ ap (has_bit (units 8 t)) place)
 
 -- and once one more byte is compared
 pub start_more : (keys : List (Option (List ℕ))) (table : Contents) (text : List ℕ) (at key : ℕ) (answer among : List Bool) → at < 8 → length table.columns ≡ 72 → key ≡ get_or text at 0 → Holds table keys → among ≡ answers (λ t. eqb (short_length t) (short_length text) && agree at t text) keys → IsAnswer answer among (λ row. eqb (number_at (take 8 (drop (8 + 8 * at) table.columns)) row) key) → answer ≡ answers (λ t. eqb (short_length t) (short_length text) && agree (at + 1) t text) keys

@@ -1,5 +1,5 @@
 -- What a string index keeps of a text.
-use Rattle.std.specs.Prelude.{ℕ, zero, suc, ◌-◌, ◌/◌, ◌%◌, ◌<◌, min, Bool, true, ◌&&◌, List, length, take, Option, nat_eq, slice_index}
+use Rattle.std.specs.Prelude.{ℕ, zero, suc, ◌+◌, ◌-◌, ◌*◌, ◌/◌, ◌%◌, ◌<◌, min, Bool, true, ◌&&◌, List, length, take, Option, nat_eq, slice_index}
 use Rattle.bits_law.specs.Numbers.{has_bit}
 use Rattle.bits_law.specs.Contents.{Contents, HoldsKeys}
 
@@ -12,6 +12,11 @@ short_length text = min (length text) 255
 abbrev pub text_unit : ℕ → List ℕ → ℕ
 text_unit zero text = short_length text
 text_unit (suc at) text = slice_index (take 8 text) at
+
+-- the number that the first `n` of these spell, eight bits each, the first one highest
+abbrev pub units : ℕ → List ℕ → ℕ
+units zero text = 0
+units (suc n) text = units n text * 256 + text_unit n text
 
 -- column j: a bit of unit j / 8, the highest first
 abbrev pub text_bit : ℕ → List ℕ → Bool

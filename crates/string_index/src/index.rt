@@ -2,7 +2,7 @@ ghost use Rattle.std.specs.Prelude.{◌≡◌, ◌+◌, ◌-◌, ◌^◌, ◌<�
 ghost use Rattle.bits_law.specs.Bitwise.{bitwise, and_not};
 ghost use Rattle.bits_law.specs.Keys.{answers, with_gap, with_key};
 ghost use Rattle.bits_law.specs.Refusal.{refusal, rows_to};
-ghost use Rattle.string_index.specs.Texts.{text_unit, text_bit, short_length, same_start, Holds};
+ghost use Rattle.string_index.specs.Texts.{text_unit, units, text_bit, short_length, same_start, Holds};
 
 use bits_law::{Bits, BitsEnd, Order, RowBits, Table};
 use std::alloc::{AllocError, Global};
@@ -38,6 +38,17 @@ fn unit(text: &[u8], at: usize) -> u8
         1..=8 => byte(text, at - 1),
         _ => 0,
     }
+}
+
+/// A text's length, up to 255, and its first seven bytes, as one number of which the length is the highest byte.
+fn first_units(text: &[u8]) -> u64
+    ensures { result ≡ units 8 text.now }
+{
+    let mut word = 0;
+    for at in 0..8 {
+        word = word * 256 + unit(text, at) as u64;
+    }
+    word
 }
 
 /// A text's length, up to 255.
@@ -168,12 +179,8 @@ impl<B: Bits> StringIndex<B> {
         ensures rows { IfOk result (λ b. length (B.bits b) ≡ length self.now.table.present) }
         ensures keys { IfOk result (λ b. (keys : List (Option (List ℕ))) → Holds self.now.table keys → B.bits b ≡ answers (λ key. same_start key text.now) keys) }
     {
-        let table = &self.table;
-        let length = short_length(text);
-        let mut rows = table.ask(0, 8, Order::Eq, length as u64)?;
-        for at in 0..8 {
-            rows = table.ask_among(&rows, 8 + 8 * at, 8, Order::Eq, byte(text, at) as u64)?;
-        }
+        let rows = self.table.ask(0, 64, Order::Eq, first_units(text))?;
+        let rows = self.table.ask_among(&rows, 64, 8, Order::Eq, byte(text, 7) as u64)?;
         Ok(rows)
     }
 }

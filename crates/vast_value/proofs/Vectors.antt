@@ -16,6 +16,8 @@ use Rattle.vast_value.specs.declared.net.Net.{Net}
 use Rattle.vast_value.specs.Nets.{net_by, net_of}
 use Rattle.vast_value.specs.Ports.{transport_code, transport_coded, transport_eq}
 use Rattle.vast_value.specs.Values.{order_of}
+use Rattle.vast_value.specs.Views.{number_cell}
+use Rattle.vast_value.specs.declared.view.PlainNumber.TheVariants as plain
 use Rattle.vast_value.specs.ValueBytes.{number, value_bytes}
 
 -- Ranges: the last number of each type, and the first beyond it.
@@ -130,3 +132,8 @@ same_transports = refl
 bytes_of_values : (value_bytes (value.Bool true) ∷ value_bytes (value.Count 258) ∷ value_bytes (value.Int (negsuc 1)) ∷ value_bytes (value.Text (codes "ab")) ∷ value_bytes (value.Port 53 Udp) ∷ value_bytes (value.Port 443 Unknown) ∷ []) ≡ ((1 ∷ []) ∷ (2 ∷ 1 ∷ 0 ∷ 0 ∷ 0 ∷ 0 ∷ 0 ∷ 0 ∷ []) ∷ (254 ∷ 255 ∷ 255 ∷ 255 ∷ 255 ∷ 255 ∷ 255 ∷ 255 ∷ []) ∷ (2 ∷ 0 ∷ 0 ∷ 0 ∷ 97 ∷ 98 ∷ []) ∷ (53 ∷ 0 ∷ 2 ∷ []) ∷ (187 ∷ 1 ∷ 0 ∷ []) ∷ [])
 unfolding number
 bytes_of_values = refl
+
+-- Plain numbers.
+
+plain_numbers : (number_cell (plain.Count 53) ∷ number_cell (plain.Port 53) ∷ []) ≡ (cell.One (value.Count 53) ∷ cell.One (value.Port 53 Unknown) ∷ [])
+plain_numbers = refl

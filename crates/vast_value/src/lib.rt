@@ -30,7 +30,7 @@ pub use row::Row;
 pub use sequence::Seq;
 pub use transport::Transport;
 pub use value::Value;
-pub use view::{RowView, SeenCell};
+pub use view::{PlainNumber, RowView, SeenCell};
 
 #[cfg(test)]
 mod tests {

@@ -4,6 +4,7 @@ pub mod GoingLemmas
 pub mod HeadLemmas
 pub mod LawLemmas
 pub mod LineLemmas
+pub mod LookLemmas
 pub mod NearLemmas
 pub mod PieceLemmas
 pub mod PlainLemmas

@@ -33,7 +33,8 @@ use Rattle.value_text.specs.Writing.{AreUsual, cell_text}
 use Rattle.zeek_log.specs.declared.fault.At.{At}
 use Rattle.zeek_log.specs.Heads.{Told}
 use Rattle.zeek_log.specs.Lines.{is_newline, is_too_long, pieces_of}
-use Rattle.zeek_log.specs.Plain.{AreInOrder, AreRead, IsOwnPiece, IsPlain, IsWrittenAs, cells_or_none, cut_before, is_of_texts, line_end, row_in, row_under, start_of}
+use Rattle.zeek_log.specs.Looks.{is_of_texts}
+use Rattle.zeek_log.specs.Plain.{AreInOrder, AreRead, IsOwnPiece, IsPlain, IsWrittenAs, cells_or_none, cut_before, line_end, row_in, row_under, start_of}
 use Rattle.zeek_log.proofs.LawLemmas.{pieces_joined}
 use Rattle.zeek_log.specs.Table.{Gives, Line, Outcome, cells_read, data_line, data_told, line_outcome, row_read, row_told, then_cell}
 
@@ -205,7 +206,7 @@ module _ (told : Told) (heading : Heading) (text places : List ℕ) (count : ℕ
 
 -- ---- cell by cell
 
-place_at : (places : List ℕ) (n at to : ℕ) → at < n → n ≤ length places → to ≡ get_or places at 0 → drop at (take n places) ≡ to ∷ drop (at + 1) (take n places)
+pub place_at : (places : List ℕ) (n at to : ℕ) → at < n → n ≤ length places → to ≡ get_or places at 0 → drop at (take n places) ≡ to ∷ drop (at + 1) (take n places)
 place_at places n at to below few is =
     drop-cons (take n places) at 0 (omega (arith, length-take-le n places few)) ∙ ap (λ (x : ℕ). x ∷ drop (suc at) (take n places)) (get_or-take n places at 0 below ∙ sym is)
     ∙ ap (λ (k : ℕ). to ∷ drop k (take n places)) (sym (add-one at))
@@ -217,7 +218,7 @@ in_order columns places at from to count below few is low high rest =
     subst (λ (ps : List ℕ). AreInOrder from count ps) (sym (place_at places (length columns) at to below few is)) (low, high, rest)
 
 -- what stands between two places of a line, taken of the text that the line begins
-within_line : (text : List ℕ) (from to count : ℕ) → from ≤ to → to ≤ count → take (to - from) (drop from (take count text)) ≡ take (to - from) (drop from text)
+pub within_line : (text : List ℕ) (from to count : ℕ) → from ≤ to → to ≤ count → take (to - from) (drop from (take count text)) ≡ take (to - from) (drop from text)
 within_line text from to count low high =
     ap (λ (k : ℕ). take (to - from) (drop from (take k text))) (omega (arith, low, high)) ∙ ap (take (to - from)) (drop-take from (count - from) text)
     ∙ take-take (to - from) (count - from) (drop from text) (omega (arith, low, high))
@@ -302,7 +303,7 @@ field_at columns seen column d same below =
     slice_get-map field_of columns column ∙ ap (option_map field_of) (slice_get-get_or columns column d below)
     ∙ ap (λ (cs : List Column). Some (field_of (get_or cs column d))) (sym same)
 
-start_kept : (places : List ℕ) (count column : ℕ) → column < count → first_or 0 (take count places) column ≡ start_of places column
+pub start_kept : (places : List ℕ) (count column : ℕ) → column < count → first_or 0 (take count places) column ≡ start_of places column
 start_kept places count zero below = refl
 start_kept places count (suc k) below = ap (λ (x : ℕ). x + 1) (get_or-take count places k 0 (omega arith))
 

@@ -7,7 +7,9 @@ use Rattle.source_block.specs.declared.stop.Stop.TheVariants.{AtEnd, Failed, AtB
 use Rattle.vast_value.specs.declared.kind.Elem.TheVariants as elem
 use Rattle.vast_value.specs.declared.kind.Kind.TheVariants as kind
 use Rattle.vast_value.specs.declared.cell.Cell.TheVariants.{One, Many, Unset}
-use Rattle.vast_value.specs.declared.value.Value.TheVariants.{Count, Text}
+use Rattle.vast_value.specs.declared.transport.Transport.TheVariants.{Tcp}
+use Rattle.vast_value.specs.declared.value.Value.TheVariants.{Count, Port, Text}
+use Rattle.vast_value.specs.declared.column.Column.{Column}
 use Rattle.vast_value.specs.declared.kind.Kind.{Kind}
 use Rattle.vast_value.specs.Headings.{Field, Heading}
 use Rattle.vast_value.specs.declared.layout.BadLayout.TheVariants as layouts
@@ -22,6 +24,8 @@ use Rattle.zeek_log.specs.declared.step.ZeekEnd.TheVariants.{Done, Fault, ReadFa
 use Rattle.zeek_log.specs.Going.{lines_left}
 use Rattle.zeek_log.specs.Heads.{Told, opened, opening, single_byte, separator_of, fault_of, name_fault, names_fault, unless_at, names_read, within_brackets, is_floating, kind_read, then_kind, kinds_read}
 use Rattle.zeek_log.specs.Laws.{IsWritable, written_log, is_plain, has_data_line}
+use Rattle.zeek_log.specs.Looks.{looks_from}
+use Rattle.zeek_log.specs.Numbers.{number_in}
 use Rattle.zeek_log.specs.Lines.{is_too_long, last_line, lines_of, pieces_of}
 use Rattle.zeek_log.specs.Reader.{State, Reads, Last, Ended, Reading, EndsAs, Follows, MayFollow, IsMetAtLast, CountsOf, come_from, heading_told}
 use Rattle.zeek_log.specs.Steps.{Steps, ended, first, follow, steps_from, end_of, steps_of, steps_of_source, taken_steps}
@@ -522,3 +526,14 @@ none_again e = omega arith
 
 none_at_last : CountsOf (Last told) (Err ReadFault) 3 4 → ⊥
 none_at_last e = omega arith
+
+-- columns of texts want no look, nor do containers of them
+abbrev column_of : Kind → Column
+column_of k = record { name = codes "c"; kind = k; short = lit≤ tt }
+
+wanted_looks : looks_from 5 (map column_of (kind.One elem.Text ∷ (kind.One elem.Port ∷ (kind.SetOf elem.Name ∷ (kind.VecOf elem.Addr ∷ []))))) ≡ record { column = 6; kind = kind.One elem.Port } ∷ (record { column = 8; kind = kind.VecOf elem.Addr } ∷ [])
+wanted_looks = refl
+
+-- Numbers of cells.
+numbers_in_cells : (number_in (Some (One (Count 53))) ∷ number_in (Some (One (Port 80 Tcp))) ∷ number_in (Some (One (Text []))) ∷ number_in (Some Unset) ∷ number_in None ∷ []) ≡ (Some 53 ∷ Some 80 ∷ None ∷ None ∷ None ∷ [])
+numbers_in_cells = refl

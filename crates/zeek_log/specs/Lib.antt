@@ -5,7 +5,9 @@ pub mod Going
 pub mod Heads
 pub mod Laws
 pub mod Lines
+pub mod Looks
 pub mod Naming
+pub mod Numbers
 pub mod Plain
 pub mod Reader
 pub mod Standing

@@ -1,12 +1,10 @@
 -- Lines that are seen to be rows before any of their cells is read.
-use Rattle.std.specs.Prelude.{◌≡◌, ℕ, zero, suc, ◌+◌, ◌-◌, ◌<◌, ◌≤◌, Bool, List, [], ◌∷◌, Option, None, Some, Result, Ok, Err, IsSome, IsSomeAnd, length, take, drop, get_or}
+use Rattle.std.specs.Prelude.{◌≡◌, ℕ, zero, suc, ◌+◌, ◌-◌, ◌<◌, ◌≤◌, List, [], ◌∷◌, Option, None, Some, Result, Ok, Err, IsSome, IsSomeAnd, length, take, drop, get_or}
 use Rattle.memchr.specs.Find.{IsFirstByte, is_byte}
 use Rattle.vast_value.specs.declared.cell.Cell.{Cell}
-use Rattle.vast_value.specs.declared.kind.Kind.{Kind}
-use Rattle.vast_value.specs.declared.kind.Kind.TheVariants as kind
 use Rattle.vast_value.specs.Headings.{Field, Heading}
 use Rattle.value_text.specs.declared.Marks.{Marks}
-use Rattle.value_text.specs.Reading.{cell_read, is_text}
+use Rattle.value_text.specs.Reading.{cell_read}
 use Rattle.value_text.specs.Writing.{cell_text}
 use Rattle.zeek_log.specs.declared.fault.At.{At}
 use Rattle.zeek_log.specs.declared.fault.ZeekFault.TheVariants.{NoHead}
@@ -62,12 +60,6 @@ pub record IsPlain (told : Told) (text places : List ℕ) (count : ℕ) : Type 0
   pub few : count ≤ length places
   pub columns : IsSomeAnd told.heading (λ heading. length heading.fields ≡ count)
   pub gives : line_outcome told (take (line_end places count) text) ≡ Gives told (Line (cells_or_none (row_in told (take (line_end places count) text))))
-
--- cells of the kind are texts or containers of texts
-abbrev pub is_of_texts : Kind → Bool
-is_of_texts (kind.One elem) = is_text elem
-is_of_texts (kind.SetOf elem) = is_text elem
-is_of_texts (kind.VecOf elem) = is_text elem
 
 -- these bytes are how the cell is written, if there is one
 abbrev pub IsWrittenAs : Option Cell → List ℕ → Type 0

@@ -26,7 +26,8 @@ pub fn data_line(alloc: Global, known: &Known, line: &[u8]) -> Result<Option<Ste
     }
     match &known.layout {
         Some(layout) => {
-            let row = read_row(alloc, &known.marks, known.separator, layout.columns(), line)?;
+            let columns = layout.layout().columns();
+            let row = read_row(alloc, &known.marks, known.separator, columns, line)?;
             Ok(Some(Step::Line(row)))
         }
         None => Err(bad_line(headless(known))),

@@ -12,6 +12,7 @@ use crate::cut::split_head;
 use crate::fault::{LineEnd, ZeekFault, bad_line};
 use crate::fields::read_names;
 use crate::known::Known;
+use crate::looked::LookedLayout;
 use crate::opening::opened;
 use crate::step::Step;
 use crate::types::separator_of;
@@ -150,6 +151,7 @@ fn give_head(alloc: Global, known: &mut Known, layout: Layout) -> Result<Option<
     ensures does { Does (head_told (told_of known.old) (heading_of layout)) (told_of known.new) result }
     ensures fits { LineFits (told_of known.old).heading (told_of known.new).heading result }
 {
-    known.layout = Some(layout.duplicate(alloc)?);
+    let kept = layout.duplicate(alloc)?;
+    known.layout = Some(LookedLayout::new(alloc, kept)?);
     Ok(Some(Step::Head(layout)))
 }

@@ -1,9 +1,10 @@
 //! What the head lines of a log have told.
 ghost use Rattle.std.specs.Prelude.{◌≤◌, ◌^◌, length};
 
+use crate::looked::LookedLayout;
 use crate::names::Names;
 use value_text::Marks;
-use vast_value::{Bytes, Layout};
+use vast_value::Bytes;
 
 /// What the lines so far have told.
 #[derive(Debug, Drop)]
@@ -15,6 +16,6 @@ pub struct Known {
     pub path: Bytes,
     pub names: Names,
     /// The layout that the last `#types` gave.
-    pub layout: Option<Layout>,
+    pub layout: Option<LookedLayout>,
     ghost short: { length path ≤ 2 ^ 24 },
 }

@@ -15,6 +15,7 @@ mod known;
 mod laws;
 mod line;
 mod line_reader;
+mod looked;
 mod names;
 mod near;
 mod opening;

@@ -5,6 +5,7 @@ ghost use Rattle.value_text.specs.Writing.{cell_text};
 ghost use Rattle.zeek_log.specs.Plain.{line_end};
 ghost use Rattle.zeek_log.specs.Standing.{IsPlainAt, behind_line, line_cells, next_state};
 ghost use Rattle.vast_value.specs.Headings.{heading_of};
+ghost use Rattle.vast_value.specs.Views.{number_cell};
 ghost use Rattle.memchr.specs.Find.{IsFirstByte, is_byte};
 ghost use Rattle.source_block.specs.Taking.{Stops, Counts};
 ghost use Rattle.zeek_log.specs.Finding.{HoldsRow, most_kept};
@@ -19,13 +20,13 @@ use crate::known::Known;
 use crate::line::take_line;
 use crate::opening::opened;
 use crate::plain::plain_line;
-use crate::plain_row::{plain_cell, write_plain};
+use crate::plain_row::{plain_cell, plain_number, plain_row, write_plain};
 use crate::step::{Step, ZeekEnd};
 use source_block::{Block, Stop, Took};
 use std::alloc::{AllocError, Global};
 use std::marker::Model;
 use vast_io::Source;
-use vast_value::{Bytes, Cell, Layout};
+use vast_value::{Bytes, Cell, Layout, PlainNumber, Row};
 
 /// How far a reader is.
 #[derive(Clone, Copy, Debug, PartialEq, Eq)]
@@ -109,7 +110,7 @@ impl LineReader {
     {
         match self.phase {
             Phase::Ended(_) => None,
-            _ => self.known.layout.as_ref(),
+            _ => layout_of(&self.known),
         }
     }
 
@@ -164,6 +165,24 @@ impl LineReader {
             count,
             column,
         )
+    }
+
+    /// The row of the plain line that is at the front of the bytes held.
+    pub fn plain_row(&self, alloc: Global, places: &[u32], count: usize) -> Result<Row, AllocError>
+        requires { IsPlainAt self.now.state self.now.held places.now count }
+        ensures { IfOk result (λ row. row ≡ line_cells self.now.state (take (line_end places.now count) self.now.held)) }
+    {
+        plain_row(alloc, &self.known, self.block.as_slice(), places, count)
+    }
+
+    /// The number that the cell of a column of the plain line is that is at the front of the bytes held, where it is seen to be
+    /// one. `None` says nothing.
+    pub fn plain_number(&self, places: &[u32], count: usize, column: usize) -> Option<PlainNumber>
+        requires plain { IsPlainAt self.now.state self.now.held places.now count }
+        requires within { column < count }
+        ensures { IfSome result (λ number. slice_get (line_cells self.now.state (take (line_end places.now count) self.now.held)) column ≡ Some (number_cell number)) }
+    {
+        plain_number(&self.known, self.block.as_slice(), places, count, column)
     }
 
     /// Puts the cells of the plain line that is at the front of the bytes held behind what `out` holds, each as it is written
@@ -285,6 +304,16 @@ impl LineReader {
             }
             None => Err(ZeekEnd::Done),
         }
+    }
+}
+
+/// The layout that is known.
+fn layout_of(known: &Known) -> Option<&Layout>
+    ensures { MatchOption result (known.now.layout ≡ None) (λ layout. known.now.layout ≡ Some layout.now) }
+{
+    match &known.layout {
+        Some(looked) => Some(looked.layout()),
+        None => None,
     }
 }
 

@@ -2,19 +2,21 @@
 ghost use Rattle.std.specs.Prelude.{◌≡◌, ◌≢◌, ◌+◌, ◌<◌, ◌≤◌, ◌∷◌, [], get_or, length, map, take, drop, IfSome, IsSome, IsTrue};
 ghost use Rattle.plain_cells.specs.Readable.{IsReadable};
 ghost use Rattle.vast_value.specs.Headings.{field_of};
-ghost use Rattle.value_text.specs.Reading.{cell_read, is_text};
+ghost use Rattle.value_text.specs.Reading.{cell_read};
 ghost use Rattle.vast_value.specs.declared.kind.Kind.{Kind};
 ghost use Rattle.zeek_log.specs.Answers.{told_of};
-ghost use Rattle.zeek_log.specs.Plain.{AreInOrder, AreRead, IsPlain, cut_before, is_of_texts};
+ghost use Rattle.zeek_log.specs.Plain.{AreInOrder, AreRead, IsPlain, cut_before};
 
 use crate::known::Known;
 use crate::line::MOST_LINE;
+use crate::looked::LookedLayout;
+use crate::plain_row::{end_of, start_of};
 use plain_cells::{
     is_plain_address, is_plain_bool, is_plain_count, is_plain_groups, is_plain_port, is_plain_time,
     line_places,
 };
 use value_text::Marks;
-use vast_value::{Column, Elem, Kind};
+use vast_value::{Elem, Kind};
 
 /// So many bytes behind a line may be looked at with it.
 const SPARE: usize = 64;
@@ -34,12 +36,12 @@ pub fn plain_line(known: &Known, held: &[u8], places: &mut [u32]) -> Option<usiz
         return None;
     }
     let count = line_places(known.separator, held, places)?;
-    let columns = layout.columns();
+    let columns = layout.layout().columns();
     if count == 0 || count != columns.len() {
         return None;
     }
     let end = places[count - 1] as usize;
-    if !may_be_row(held, end) || !are_plain(&known.marks, columns, held, end, places) {
+    if !may_be_row(held, end) || !are_plain(&known.marks, layout, held, end, places) {
         return None;
     }
     Some(count)
@@ -57,40 +59,38 @@ fn may_be_row(held: &[u8], end: usize) -> bool
 
 /// Whether the cells before the places of a line are seen to be well spelled.
 #[inline(never)]
-fn are_plain(marks: &Marks, columns: &[Column], text: &[u8], count: usize, places: &[u32]) -> bool
-    requires places { length columns.now ≤ length places.now }
+fn are_plain(
+    marks: &Marks,
+    layout: &LookedLayout,
+    text: &[u8],
+    count: usize,
+    places: &[u32],
+) -> bool
+    requires places { length layout.now.columns ≤ length places.now }
+    requires order { AreInOrder 0 count (take (length layout.now.columns) places.now) }
     requires spare { count + 64 ≤ length text.now }
-    ensures read { IsTrue result → AreRead marks.now (map field_of columns.now) (cut_before (take (length columns.now) places.now) 0 (take count text.now)) }
-    ensures order { IsTrue result → AreInOrder 0 count (take (length columns.now) places.now) }
+    ensures { IsTrue result → AreRead marks.now (map field_of layout.now.columns) (cut_before (take (length layout.now.columns) places.now) 0 (take count text.now)) }
 {
     let dash = is_dash(marks);
-    let mut from = 0;
-    for (at, column) in columns.iter().enumerate() {
-        let to = places[at] as usize;
-        if to < from || to > count {
+    for look in layout.looks() {
+        let from = start_of(places, look.column);
+        let to = end_of(places, look.column);
+        let (_, cell) = text.split_at(from);
+        if !is_plain(marks, dash, look.kind, cell, to - from) {
             return false;
         }
-        if !is_plain(marks, dash, column.kind, text, from, to - from) {
-            return false;
-        }
-        from = to + 1;
     }
     true
 }
 
-/// Whether so many bytes from `from` on are seen to be a cell of the kind. Texts need no look. `dash` says that the unset mark
-/// is known to be the usual one.
+/// Whether the first so many bytes are seen to be a cell of the kind. `dash` says that the unset mark is known to be the usual
+/// one.
 #[inline(always)]
-#[tactic(auto, using(crate::proofs::PlainLemmas::texts_readable))]
-fn is_plain(marks: &Marks, dash: bool, kind: Kind, text: &[u8], from: usize, count: usize) -> bool
+fn is_plain(marks: &Marks, dash: bool, kind: Kind, cell: &[u8], count: usize) -> bool
     requires dash { IsTrue dash → marks.now.unset ≡ 45 ∷ [] }
-    requires spare { from + count + 32 ≤ length text.now }
-    ensures { IsTrue result → IsSome (cell_read marks.now kind (take count (drop from text.now))) }
+    requires spare { count + 32 ≤ length cell.now }
+    ensures { IsTrue result → IsSome (cell_read marks.now kind (take count cell.now)) }
 {
-    if is_of_texts(kind) {
-        return true;
-    }
-    let (_, cell) = text.split_at(from);
     if dash && is_dash_cell(cell, count) {
         return true;
     }
@@ -133,25 +133,6 @@ fn is_plain_of(kind: Kind, text: &[u8], count: usize) -> bool
         Kind::One(elem) => is_plain_one(elem, text, count),
         _ => false,
     }
-}
-
-/// Whether cells of a kind are texts or containers of texts, which are well spelled whatever they are.
-#[inline(always)]
-fn is_of_texts(kind: Kind) -> bool
-    ensures { result ≡ is_of_texts kind }
-{
-    match kind {
-        Kind::One(elem) => is_text(elem),
-        Kind::SetOf(elem) => is_text(elem),
-        Kind::VecOf(elem) => is_text(elem),
-    }
-}
-
-#[inline(always)]
-fn is_text(elem: Elem) -> bool
-    ensures { result ≡ is_text elem }
-{
-    matches!(elem, Elem::Text | Elem::Name)
 }
 
 #[inline(always)]

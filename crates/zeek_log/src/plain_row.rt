@@ -1,9 +1,10 @@
 //! The cells of a line that is seen to be a row.
-ghost use Rattle.std.specs.Prelude.{◌≡◌, ◌≢◌, ◌+◌, ◌-◌, ◌<◌, ◌≤◌, ◌++◌, ◌∷◌, None, Some, codes, length, map, slice_get, take, IfOk, IfSome, IsTrue, OnOk};
+ghost use Rattle.std.specs.Prelude.{◌≡◌, ◌≢◌, ◌+◌, ◌-◌, ◌<◌, ◌≤◌, ◌++◌, ◌∷◌, None, Some, codes, get_or, length, map, slice_get, take, IfOk, IfSome, IsTrue, OnOk};
 ghost use Rattle.std.specs.List.{flat_map};
 ghost use Rattle.vast_value.specs.declared.cell.Cell.{Cell};
 ghost use Rattle.vast_value.specs.declared.kind.Kind.{Kind};
 ghost use Rattle.plain_cells.specs.Own.{IsOwnText};
+ghost use Rattle.vast_value.specs.Views.{number_cell};
 ghost use Rattle.value_text.specs.Reading.{cell_read};
 ghost use Rattle.value_text.specs.Writing.{AreUsual, cell_text};
 ghost use Rattle.zeek_log.specs.Answers.{told_of};
@@ -14,7 +15,7 @@ use crate::known::Known;
 use plain_cells::{is_own_address, is_own_number, is_own_text, is_own_time, is_plain_bool};
 use std::alloc::{AllocError, Global};
 use value_text::{CellEnd, Marks, read_cell, write_cell};
-use vast_value::{Bytes, Cell, Elem, Kind};
+use vast_value::{Bytes, Cell, Elem, Kind, PlainNumber, Row};
 
 /// So many bytes behind a cell may be looked at with it.
 const SPARE: usize = 32;
@@ -160,7 +161,7 @@ fn raw_cell<'a>(
     let Some(layout) = &known.layout else {
         unreachable!()
     };
-    let kind = layout.columns()[column].kind;
+    let kind = layout.layout().columns()[column].kind;
     let from = start_of(places, column);
     let to = places[column] as usize;
     let (_, text) = held.split_at(from);
@@ -191,6 +192,46 @@ pub fn plain_cell(
         Err(CellEnd::Memory) => Err(AllocError),
         Err(CellEnd::BadText) => unreachable!(),
     }
+}
+
+/// The row of the plain line that is at the front of the bytes held.
+pub fn plain_row(
+    alloc: Global,
+    known: &Known,
+    held: &[u8],
+    places: &[u32],
+    count: usize,
+) -> Result<Row, AllocError>
+    requires { IsPlain (told_of known.now) held.now places.now count }
+    ensures { IfOk result (λ row. row ≡ cells_or_none (row_in (told_of known.now) (take (line_end places.now count) held.now))) }
+{
+    let mut row = Row::with_capacity(alloc, count)?;
+    for column in 0..count {
+        let cell = plain_cell(alloc, known, held, places, count, column)?;
+        row.push(cell)?;
+    }
+    Ok(row)
+}
+
+/// The number that the cell of a column of the plain line is that is at the front of the bytes held, where it is seen to be
+/// one. `None` says nothing.
+pub fn plain_number(
+    known: &Known,
+    held: &[u8],
+    places: &[u32],
+    count: usize,
+    column: usize,
+) -> Option<PlainNumber>
+    requires plain { IsPlain (told_of known.now) held.now places.now count }
+    requires within { column < count }
+    ensures { IfSome result (λ number. slice_get (cells_or_none (row_in (told_of known.now) (take (line_end places.now count) held.now))) column ≡ Some (number_cell number)) }
+{
+    let cell = raw_cell(known, held, places, count, column);
+    if !is_dash(known.marks.unset.as_slice()) {
+        return None;
+    }
+    let (raw, _) = cell.text.split_at(cell.count);
+    plain_cells::plain_number(cell.kind, raw)
 }
 
 /// The bytes of the cell of a column of the plain line that is at the front of the bytes held, where they are seen to be those
@@ -278,7 +319,7 @@ fn is_own_one(elem: Elem, text: &[u8], count: usize) -> bool
 
 /// Where the cell of a column begins.
 #[inline(always)]
-fn start_of(places: &[u32], column: usize) -> usize
+pub fn start_of(places: &[u32], column: usize) -> usize
     requires { column ≤ length places.now }
     ensures { result ≡ start_of places.now column }
 {
@@ -286,4 +327,13 @@ fn start_of(places: &[u32], column: usize) -> usize
         return 0;
     }
     places[column - 1] as usize + 1
+}
+
+/// Where the cell of a column ends.
+#[inline(always)]
+pub fn end_of(places: &[u32], column: usize) -> usize
+    requires { column < length places.now }
+    ensures { result ≡ get_or places.now column 0 }
+{
+    places[column] as usize
 }

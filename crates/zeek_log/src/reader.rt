@@ -1,11 +1,13 @@
 //! A reader that stands at a line.
-ghost use Rattle.std.specs.Prelude.{◌≡◌, ℕ, ◌<◌, ◌≤◌, ◌++◌, ◌∷◌, List, [], Option, None, Some, Ok, false, length, is_some, IfOk, OnOk, IsTrue, MatchOption};
+ghost use Rattle.std.specs.Prelude.{◌≡◌, ℕ, ◌<◌, ◌≤◌, ◌++◌, ◌∷◌, List, [], Option, None, Some, Ok, false, length, is_some, slice_get, IfOk, IfSome, OnOk, IsTrue, MatchOption};
 ghost use Rattle.std.specs.List.{flat_map};
 ghost use Rattle.value_text.specs.Writing.{cell_text};
 ghost use Rattle.vast_value.specs.Headings.{heading_of};
+ghost use Rattle.vast_value.specs.Views.{number_cell};
 ghost use Rattle.zeek_log.specs.Finding.{HoldsRow, most_kept};
 ghost use Rattle.zeek_log.specs.Going.{lines_left};
 ghost use Rattle.zeek_log.specs.Heads.{opening};
+ghost use Rattle.zeek_log.specs.Numbers.{number_in};
 ghost use Rattle.zeek_log.specs.Reader.{CountsOf, Follows, Reads, StepFits, StepHas, given, heading_told, moved_to, step_at};
 ghost use Rattle.zeek_log.specs.Standing.{StandsWell, standing};
 ghost use Rattle.zeek_log.specs.Steps.{step_of};
@@ -16,7 +18,7 @@ use crate::step::{Moved, Step, ZeekEnd};
 use std::alloc::{AllocError, Global};
 use std::marker::Model;
 use vast_io::Source;
-use vast_value::{Bytes, Cell, Layout, Row, RowView, SeenCell};
+use vast_value::{Bytes, Cell, Layout, PlainNumber, Row, RowView, SeenCell};
 
 /// The most columns of a layout, and so the most places behind the cells of a row.
 const MOST_PLACES: usize = 256;
@@ -164,6 +166,26 @@ impl ZeekReader {
         self.lines.layout()
     }
 
+    /// The number of a count or of a port in a column, counted from 0, of the row at which the reader stands, where it is seen
+    /// to be a plain one. `None` says nothing of the cell.
+    pub fn number(&self, column: usize) -> Option<u64>
+        ensures { IfSome result (λ number. number_in (slice_get self.now.row column) ≡ Some number) }
+    {
+        let number = self.plain_number(column)?;
+        Some(number_of(number))
+    }
+
+    /// The row at which the reader stands, one without cells where it stands at none.
+    pub fn row(&self, alloc: Global) -> Result<Row, AllocError>
+        ensures { IfOk result (λ row. row ≡ self.now.row) }
+    {
+        match &self.current {
+            Current::Nowhere => Ok(Row::new(alloc)),
+            Current::Made(row) => row.duplicate(alloc),
+            Current::Plain(count) => self.lines.plain_row(alloc, &self.places, *count),
+        }
+    }
+
     /// Puts the cells of the row at which the reader stands behind what `out` holds, each as it is written and behind a tab.
     pub fn write_row(&self, alloc: Global, out: &mut Bytes) -> Result<(), AllocError>
         ensures { OnOk result (out.new ≡ out.old ++ flat_map (λ x. 9 ∷ cell_text x) self.now.row) }
@@ -212,5 +234,28 @@ impl RowView for ZeekReader {
                 Ok(Some(SeenCell::Made(cell)))
             }
         }
+    }
+
+    fn plain_number(&self, column: usize) -> Option<PlainNumber> {
+        match &self.current {
+            Current::Nowhere => None,
+            Current::Made(row) => row.plain_number(column),
+            Current::Plain(count) => {
+                if column >= *count {
+                    return None;
+                }
+                self.lines.plain_number(&self.places, *count, column)
+            }
+        }
+    }
+}
+
+/// The number of a count or of a port.
+fn number_of(number: PlainNumber) -> u64
+    ensures { number_in (Some (number_cell number)) ≡ Some result }
+{
+    match number {
+        PlainNumber::Count(n) => n,
+        PlainNumber::Port(number) => number as u64,
     }
 }

@@ -1,15 +1,15 @@
-use Rattle.std.proofs.Common.{◌≡◌, ◌+◌, ◌*◌, ◌<◌, ◌≤◌, ◌&&◌, length, get_or}
+use Rattle.std.proofs.Common.{◌≡◌, ◌<◌, ◌≤◌, ◌&&◌, length, get_or}
 use Rattle.bits_law.specs.Numbers.{has_bit}
 use Rattle.bits_law.specs.Packed.{IsPlane, AreFilled}
 use Rattle.bits_law.proofs.head.fill.Given as goal
 
--- the columns from bit `at` up are filled in
+-- the columns of `own` from bit `at` up are filled in
 abbrev pub invariant-loop-at : goal.invariant-loop-at
 invariant-loop-at l = record {
   within : l.at ≤ 64;
   size : length l.plane ≡ 64;
-  plane : l.made < 8 → IsPlane l.plane l.keys l.n l.part l.made 64;
-  filled : AreFilled l.initial.words.items l.words.items l.literal l.at (λ c i. has_bit l.taken i && has_bit (get_or l.keys (i * l.n + l.part) 0) c);
+  plane : l.made < 8 → IsPlane l.plane l.keys l.made 64;
+  filled : AreFilled l.initial.words.items l.words.items l.own l.at (λ c i. has_bit l.taken i && has_bit (get_or l.keys i 0) c);
 }
 
 abbrev pub decreases-loop-at : goal.decreases-loop-at

@@ -6,5 +6,5 @@ use Rattle.bits_law.proofs.head.turn.Given as goal
 abbrev pub invariant-loop-i : goal.invariant-loop-i
 invariant-loop-i l = record {
   size : length l.plane ≡ 64;
-  plane : IsPlane l.plane l.keys l.n l.part l.byte l.i;
+  plane : IsPlane l.plane l.keys l.byte l.i;
 }

@@ -1,26 +1,34 @@
-use Rattle.std.proofs.Common.{get_or, refl, arith}
-use Rattle.zeek_log.proofs.PieceLemmas.{item_left}
-use Rattle.zeek_log.proofs.PlainLemmas.{in_order, read_on}
+use Rattle.std.proofs.Common.{arith}
+use Rattle.std.proofs.lemmas.List.{length-drop}
+use Rattle.zeek_log.proofs.LookLemmas.{all_seen, look_stands, no_look}
 use Rattle.zeek_log.proofs.plain.are_plain.Goals as goal
 
-pub loop-at-preserved : goal.loop-at-preserved
-loop-at-preserved c =
-    let marks = c.args.marks.now in
-    let columns = c.args.columns.now in
-    let places = c.args.places.now in
-    let text = c.args.text.now in
-    let at = c.loop-at.at in
-    let from = c.loop-at.from in
-    let to = get_or places at 0 in
-    let column = c.index-columns-at.result in
-    record {
-      within = omega (arith, c.if-to-count.false);
-      order = λ rest.
-          c.loop-at.invariant.order
-          (in_order columns places at from to c.args.count c.loop-at-test.true c.requires.places refl c.if-to-from.false c.if-to-count.false rest);
-      read = λ rest.
-          c.loop-at.invariant.read
-          (read_on marks columns column places text at from to c.args.count c.loop-at-test.true c.requires.places
-          (item_left columns at column c.loop-at-test.true c.index-columns-at.is) refl c.if-to-from.false c.if-to-count.false
-          (c.if-not-is_plain.ensures refl) rest);
-    }
+pub end_of-to-requires : goal.end_of-to-requires
+end_of-to-requires c =
+    let stands = look_stands c.args.layout.now.columns c.looks-look-items.result.now c.args.places.now c.args.count c.loop-look.look-index no_look c.looks-look-items.ensures c.loop-look-test.true c.requires.places c.requires.order in
+    stands.0
+
+pub start_of-from-requires : goal.start_of-from-requires
+start_of-from-requires c =
+    let stands = look_stands c.args.layout.now.columns c.looks-look-items.result.now c.args.places.now c.args.count c.loop-look.look-index no_look c.looks-look-items.ensures c.loop-look-test.true c.requires.places c.requires.order in
+    omega (arith, stands.0)
+
+pub split_at-requires : goal.split_at-requires
+split_at-requires c =
+    let stands = look_stands c.args.layout.now.columns c.looks-look-items.result.now c.args.places.now c.args.count c.loop-look.look-index no_look c.looks-look-items.ensures c.loop-look-test.true c.requires.places c.requires.order in
+    omega (arith, stands.1, stands.2, c.start_of-from.ensures, c.requires.spare)
+
+pub overflow_sub-to : goal.overflow_sub-to
+overflow_sub-to c =
+    let stands = look_stands c.args.layout.now.columns c.looks-look-items.result.now c.args.places.now c.args.count c.loop-look.look-index no_look c.looks-look-items.ensures c.loop-look-test.true c.requires.places c.requires.order in
+    omega (arith, stands.1, c.start_of-from.ensures, c.end_of-to.ensures)
+
+pub is_plain-requires-clause-spare : goal.is_plain-requires-clause-spare
+is_plain-requires-clause-spare c =
+    let stands = look_stands c.args.layout.now.columns c.looks-look-items.result.now c.args.places.now c.args.count c.loop-look.look-index no_look c.looks-look-items.ensures c.loop-look-test.true c.requires.places c.requires.order in
+    omega (arith, stands.1, stands.2, c.start_of-from.ensures, c.end_of-to.ensures, c.requires.spare, c.split_at.ensures.back_len)
+
+pub returns : goal.returns
+returns c = λ yes.
+    all_seen c.args.marks.now c.args.text.now c.args.places.now c.args.count c.loop-look.look-index c.args.layout.now.columns c.looks-look-items.result.now
+    c.looks-look-items.ensures (omega (arith, c.loop-look-test.false)) c.requires.places c.requires.order c.loop-look.invariant

@@ -1,7 +1,6 @@
-use Rattle.std.proofs.Common.{ap, sym, ◌∙◌, take}
 use Rattle.zeek_log.proofs.PlainLemmas.{dash_read}
 use Rattle.zeek_log.proofs.plain.is_plain.Goals as goal
 
 pub returns-then-is_dash_cell : goal.returns-then-is_dash_cell
 returns-then-is_dash_cell c =
-    λ yes. dash_read c.args.marks.now c.args.kind _ (c.requires.dash c.if-dash.true) (ap (take c.args.count) (sym c.split_at.ensures.back) ∙ c.is_dash_cell.ensures c.if-is_dash_cell.true)
+    λ yes. dash_read c.args.marks.now c.args.kind _ (c.requires.dash c.if-dash.true) (c.is_dash_cell.ensures c.if-is_dash_cell.true)

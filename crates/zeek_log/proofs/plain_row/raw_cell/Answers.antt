@@ -2,6 +2,7 @@ use Rattle.std.proofs.Common.{◌≡◌, ◌-◌, ℕ, List, Some, get_or, take,
 use Rattle.std.specs.Option.{option_map}
 use Rattle.std.proofs.lemmas.List.{length-drop, length-map}
 use Rattle.vast_value.specs.declared.column.Column.{Column}
+use Rattle.vast_value.specs.declared.layout.Layout.{Layout}
 use Rattle.vast_value.specs.Headings.{field_of, heading_of}
 use Rattle.value_text.specs.Reading.{cell_read}
 use Rattle.zeek_log.specs.Answers.{told_of}
@@ -40,7 +41,7 @@ returns-clause-reads c =
     let stands = ap (option_map heading_of) c.in-Some.is in
     let below = has_column told heading held places c.args.count column stands c.requires.plain c.requires.within in
     let at : Column = get_or c.columns.result.now column c.index-columns-column.result in
-    let field = field_at c.in-Some.layout.columns c.columns.result.now column c.index-columns-column.result c.columns.ensures (omega (arith, below, length-map c.in-Some.layout.columns field_of)) in
+    let field = field_at c.in-Some.layout.columns c.columns.result.now column c.index-columns-column.result (c.columns.ensures ∙ ap (λ (l : Layout). l.columns) c.layout.ensures) (omega (arith, below, length-map c.in-Some.layout.columns field_of)) in
     let raw =
     ap (take (get_or places column 0 - c.start_of-from.result)) c.split_at.ensures.back
     ∙ ap (λ (k : ℕ). take (get_or places column 0 - k) (drop k held)) c.start_of-from.ensures in

@@ -20,7 +20,7 @@ invariant_of-self-2 c =
     let e : Entry = entry_of r c.args.expr in
     let count : c.len-count.result ≡ length i.queries.items = omega (arith, i.queries.ok.0, c.len-count.ensures) in
     let place : c.len-place.result ≡ length i.entries.items =
-      c.len-place.ensures ∙ sym c.reserve-else-is_err.new.self.ok.0 ∙ ap (λ (xs : List Entry). length xs) c.reserve-else-is_err.ensures.items in
+      omega (arith, c.len-place.ensures, c.reserve-else-is_err.new.self.ok.0, ap (λ (xs : List Entry). length xs) c.reserve-else-is_err.ensures.items) in
     let is : c.push_reserved-2.new.self.items ≡ i.entries.items ++ e ∷ [] =
       c.push_reserved-2.ensures.items
       ∙ ap (λ (xs : List Entry). xs ++ entry_of (c.len-count.result + 1) c.in-Ok.expr ∷ []) c.reserve-else-is_err.ensures.items
