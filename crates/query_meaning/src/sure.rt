@@ -110,7 +110,10 @@ fn time_known(rel: Rel, literal: &Literal, columns: &[Column], cells: &[Cell]) -
     ensures maybe { result.1 ≡ maybe_cell rel literal.now (event_time (map field_of columns.now) cells.now) }
 {
     match event_time(columns, cells) {
-        Some(cell) => (sure_cell(rel, literal, cell), maybe_cell(rel, literal, cell)),
+        Some(cell) => (
+            sure_cell(rel, literal, cell),
+            maybe_cell(rel, literal, cell),
+        ),
         None => (
             sure_cell(rel, literal, &Cell::Unset),
             maybe_cell(rel, literal, &Cell::Unset),
