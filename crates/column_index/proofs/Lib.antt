@@ -8,3 +8,4 @@ pub mod NumberLemmas
 pub mod PairLemmas
 pub mod PortLemmas
 pub mod TextLemmas
+mod Vectors

@@ -18,3 +18,6 @@ mod texts;
 
 pub use column::ColumnIndex;
 pub use kept::{Bitmap, Pair};
+
+#[cfg(test)]
+mod tests;

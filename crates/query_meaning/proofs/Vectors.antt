@@ -1,5 +1,5 @@
 -- Values that the definitions have, computed by the prover. Each is false where its definition is wrong.
-use Rattle.std.proofs.Common.{◌≡◌, pos, negsuc, Bool, true, false, List, [], ◌∷◌, None, Some, codes, map, filter, refl, lit≤}
+use Rattle.std.proofs.Common.{◌≡◌, ℕ, pos, negsuc, replicate, Bool, true, false, List, [], ◌∷◌, None, Some, codes, map, filter, refl, lit≤}
 use Rattle.std.specs.List.{list_all, list_any}
 use Rattle.vast_value.specs.declared.kind.Elem.{Elem}
 use Rattle.vast_value.specs.declared.kind.Elem.TheVariants as elem
@@ -25,6 +25,9 @@ use Rattle.query_meaning.specs.declared.expr.Test.{Test}
 use Rattle.query_meaning.specs.Agreement.{is_subnet, is_related, may_have, relates, is_equality, stands, stands_for, pick_agrees}
 use Rattle.query_meaning.specs.Meaning.{cells_if, is_of, first_or_unset, event_time, chosen, test_holds, level_holds}
 use Rattle.query_meaning.specs.Picks.{full_name, is_named}
+use Rattle.query_meaning.specs.Sure.{Known, level_known, sure_by, maybe_by, sure_test, maybe_test}
+use Rattle.query_meaning.specs.SureCells.{bucket, element_bytes, known_length, maybe_cell, maybe_element, maybe_elements, maybe_text, maybe_time, maybe_value, same_front, same_whole, seconds, sure_cell, sure_text, sure_time, sure_value}
+use Rattle.vast_value.specs.ValueBytes.{number}
 use Rattle.query_meaning.specs.Relations.{goes_with, same_bool, takes_transport, equals, differs, stands_first, has, equals_element, value_meets, elements_meet, is_unset, nil_meets, literal_meets, meets}
 
 -- 10.0.0.0/8, 10.0.0.0/16, 10.1.0.0/16 and 11.0.0.0/8
@@ -245,3 +248,104 @@ test pick rel literal = level.Test (asks pick rel literal)
 -- some chosen cell is enough, and where none is chosen nothing holds; an `And` of none holds and an `Or` of none does not
 matches : map (level_holds layout cells) (test (OfKind elem.Time) Eq (value.Time (pos 9)) ∷ test (OfKind elem.Time) Eq (value.Time (pos 8)) ∷ test (Named (codes "x")) Ne (value.Count 1) ∷ level.Not false ∷ level.And [] ∷ level.Or [] ∷ level.And (true ∷ false ∷ []) ∷ level.Or (true ∷ false ∷ []) ∷ []) ≡ (true ∷ false ∷ false ∷ true ∷ true ∷ false ∷ false ∷ true ∷ [])
 matches = refl
+
+-- seconds are rounded down, those before 1970 too
+seconds_are_rounded_down : map seconds (pos 10400000000 ∷ pos 10999999999 ∷ pos 11000000000 ∷ negsuc 0 ∷ negsuc 999999999 ∷ negsuc 1000000000 ∷ []) ≡ pos 10 ∷ pos 10 ∷ pos 11 ∷ negsuc 0 ∷ negsuc 0 ∷ negsuc 1 ∷ []
+seconds_are_rounded_down = refl
+
+-- 9.9, 10.4, 10.6 and 11.2, asked of 10.5
+abbrev times : List Value
+times = value.Time (pos 9900000000) ∷ value.Time (pos 10400000000) ∷ value.Time (pos 10600000000) ∷ value.Time (pos 11200000000) ∷ []
+
+times_sure : map (λ rel. map (sure_value rel (value.Time (pos 10500000000))) times) every_rel
+    ≡ ((false ∷ false ∷ false ∷ false ∷ []) ∷ (true ∷ false ∷ false ∷ true ∷ []) ∷ (true ∷ false ∷ false ∷ false ∷ []) ∷ (true ∷ false ∷ false ∷ false ∷ []) ∷ (false ∷ false ∷ false ∷ true ∷ []) ∷ (false ∷ false ∷ false ∷ true ∷ []) ∷ (false ∷ false ∷ false ∷ false ∷ []) ∷ (false ∷ false ∷ false ∷ false ∷ []) ∷ [])
+times_sure = refl
+
+times_maybe : map (λ rel. map (maybe_value rel (value.Time (pos 10500000000))) times) every_rel
+    ≡ ((false ∷ true ∷ true ∷ false ∷ []) ∷ (true ∷ true ∷ true ∷ true ∷ []) ∷ (true ∷ true ∷ true ∷ false ∷ []) ∷ (true ∷ true ∷ true ∷ false ∷ []) ∷ (false ∷ true ∷ true ∷ true ∷ []) ∷ (false ∷ true ∷ true ∷ true ∷ []) ∷ (false ∷ false ∷ false ∷ false ∷ []) ∷ (false ∷ false ∷ false ∷ false ∷ []) ∷ [])
+times_maybe = refl
+
+times_by_relation : (map (λ rel. sure_time rel (pos 10500000000) (pos 9900000000)) every_rel ∷ map (λ rel. maybe_time rel (pos 10500000000) (pos 9900000000)) every_rel ∷ []) ≡ ((false ∷ true ∷ true ∷ true ∷ false ∷ false ∷ false ∷ false ∷ []) ∷ (false ∷ true ∷ true ∷ true ∷ false ∷ false ∷ false ∷ false ∷ []) ∷ [])
+times_by_relation = refl
+
+lengths_are_known_to_255 : map known_length ([] ∷ replicate 254 97 ∷ replicate 255 97 ∷ replicate 256 97 ∷ []) ≡ (0 ∷ 254 ∷ 255 ∷ 255 ∷ [])
+lengths_are_known_to_255 = refl
+
+abbrev long_texts : List (List ℕ)
+long_texts = codes "abcdefgh" ∷ codes "abcdefghi" ∷ codes "abcdefghj" ∷ codes "abcdefgx" ∷ []
+
+fronts : (map (same_front (codes "abcdefgh")) long_texts ∷ map (same_front (codes "abcdefghi")) long_texts ∷ map (same_whole (codes "abcdefgh")) long_texts ∷ map (same_whole (codes "abcdefghi")) long_texts ∷ [])
+    ≡ ((true ∷ false ∷ false ∷ false ∷ []) ∷ (false ∷ true ∷ true ∷ false ∷ []) ∷ (true ∷ false ∷ false ∷ false ∷ []) ∷ (false ∷ false ∷ false ∷ false ∷ []) ∷ [])
+fronts = refl
+
+-- `==`, `!=` and `ni` of eight bytes, and of nine
+texts_sure : map (λ s. map (λ rel. map (sure_text rel s) long_texts) (Eq ∷ Ne ∷ Contains ∷ [])) (codes "abcdefgh" ∷ codes "abcdefghi" ∷ [])
+    ≡ (((true ∷ false ∷ false ∷ false ∷ []) ∷ (false ∷ true ∷ true ∷ true ∷ []) ∷ (false ∷ false ∷ false ∷ false ∷ []) ∷ []) ∷ ((false ∷ false ∷ false ∷ false ∷ []) ∷ (true ∷ false ∷ false ∷ true ∷ []) ∷ (false ∷ false ∷ false ∷ false ∷ []) ∷ []) ∷ [])
+texts_sure = refl
+
+texts_maybe : map (λ s. map (λ rel. map (maybe_text rel s) long_texts) (Eq ∷ Ne ∷ Contains ∷ [])) (codes "abcdefgh" ∷ codes "abcdefghi" ∷ [])
+    ≡ (((true ∷ false ∷ false ∷ false ∷ []) ∷ (false ∷ true ∷ true ∷ true ∷ []) ∷ (true ∷ true ∷ true ∷ true ∷ []) ∷ []) ∷ ((false ∷ true ∷ true ∷ false ∷ []) ∷ (true ∷ true ∷ true ∷ true ∷ []) ∷ (false ∷ true ∷ true ∷ false ∷ []) ∷ []) ∷ [])
+texts_maybe = refl
+
+-- an empty needle is sure, and texts have no order
+needles : (sure_text Contains [] (codes "a") ∷ sure_text Contains [] [] ∷ maybe_text Contains [] [] ∷ maybe_text Contains (replicate 256 97) (replicate 255 97) ∷ maybe_text Contains (codes "ab") (codes "a") ∷ sure_text Lt (codes "a") (codes "b") ∷ maybe_text Ge (codes "a") (codes "b") ∷ []) ≡ (true ∷ true ∷ true ∷ true ∷ false ∷ false ∷ false ∷ [])
+needles = refl
+
+-- other values are known whole, and a text goes with strings and enums alike
+whole_values : (sure_value Eq (value.Text (codes "ab")) (value.Name (codes "ab")) ∷ sure_value Eq (value.Count 1) (value.Int (pos 1)) ∷ sure_value Within (value.Subnet net_10) (value.Addr 281470849515521) ∷ maybe_value Within (value.Subnet net_10) (value.Addr 281470866292737) ∷ maybe_value Ne (value.Name (codes "a")) (value.Text (codes "b")) ∷ sure_value Eq (value.Port 53 Tcp) (value.Port 53 Udp) ∷ maybe_value Eq (value.Port 53 Unknown) (value.Port 53 Udp) ∷ []) ≡ (true ∷ false ∷ true ∷ false ∷ true ∷ false ∷ true ∷ [])
+whole_values = refl
+
+-- the transport of a port is not in its bucket, and the length of a text is not
+buckets : map bucket (value.Text (codes "ab") ∷ value.Name (codes "ab") ∷ value.Port 53 Udp ∷ value.Port 53 Tcp ∷ value.Port 309 Unknown ∷ value.Count 258 ∷ value.Bool true ∷ value.Int (negsuc 0) ∷ value.Subnet net_10 ∷ []) ≡ (3 ∷ 3 ∷ 53 ∷ 53 ∷ 54 ∷ 3 ∷ 1 ∷ 56 ∷ 48 ∷ [])
+unfolding number
+buckets = refl
+
+element_is_its_bytes : (element_bytes (value.Text (codes "ab")) ∷ element_bytes (value.Port 309 Icmp) ∷ element_bytes (value.Bool true) ∷ []) ≡ (codes "ab" ∷ (53 ∷ 1 ∷ []) ∷ (1 ∷ []) ∷ [])
+unfolding number
+element_is_its_bytes = refl
+
+elements_may_be : (maybe_element (value.Port 53 Unknown) (Some (value.Port 53 Udp)) ∷ maybe_element (value.Text (codes "ab")) (Some (value.Name (codes "ba"))) ∷ maybe_element (value.Text (codes "ab")) (Some (value.Name (codes "bb"))) ∷ maybe_element (value.Count 1) (Some (value.Int (pos 1))) ∷ maybe_element (value.Count 1) None ∷ []) ≡ (true ∷ true ∷ false ∷ false ∷ false ∷ [])
+unfolding number
+elements_may_be = refl
+
+containers_may_be : map (λ rel. maybe_elements rel (value.Text (codes "ab")) (None ∷ Some (value.Text (codes "ba")) ∷ [])) every_rel ≡ (false ∷ false ∷ false ∷ false ∷ false ∷ false ∷ false ∷ true ∷ [])
+containers_may_be = refl
+
+-- an unset cell, and a container, of `== nil`, `!= nil`, `!=` and `ni`
+abbrev a_container : Cell
+a_container = cell.Many (Some (value.Text (codes "ab")) ∷ [])
+
+cells_sure : map (λ x. sure_cell Eq Nil x ∷ sure_cell Ne Nil x ∷ sure_cell Ne (Of (value.Text [])) x ∷ sure_cell Contains (Of (value.Text (codes "ab"))) x ∷ []) (cell.Unset ∷ a_container ∷ cell.One (value.Text (codes "a")) ∷ [])
+    ≡ ((true ∷ false ∷ false ∷ false ∷ []) ∷ (false ∷ true ∷ false ∷ false ∷ []) ∷ (false ∷ true ∷ true ∷ false ∷ []) ∷ [])
+cells_sure = refl
+
+cells_maybe : map (λ x. maybe_cell Eq Nil x ∷ maybe_cell Ne Nil x ∷ maybe_cell Ne (Of (value.Text [])) x ∷ maybe_cell Contains (Of (value.Text (codes "ab"))) x ∷ []) (cell.Unset ∷ a_container ∷ cell.One (value.Text (codes "abc")) ∷ [])
+    ≡ ((true ∷ false ∷ false ∷ false ∷ []) ∷ (false ∷ true ∷ false ∷ true ∷ []) ∷ (false ∷ true ∷ true ∷ true ∷ []) ∷ [])
+cells_maybe = refl
+
+-- the path is known whole, and a text of a column by its front
+the_path_is_exact : (sure_by TypeName Contains (Of (value.Text (codes "on"))) (cell.One (value.Text (codes "conn"))) ∷ maybe_by TypeName Contains (Of (value.Text (codes "no"))) (cell.One (value.Text (codes "conn"))) ∷ sure_by (Named []) Contains (Of (value.Text (codes "on"))) (cell.One (value.Text (codes "conn"))) ∷ maybe_by (Named []) Contains (Of (value.Text (codes "no"))) (cell.One (value.Text (codes "conn"))) ∷ []) ≡ (true ∷ false ∷ false ∷ true ∷ [])
+the_path_is_exact = refl
+
+abbrev two_times : Heading
+two_times = record { path = codes "t"; fields = record { name = codes "a"; kind = kind.One elem.Time } ∷ record { name = codes "b"; kind = kind.One elem.Time } ∷ [] }
+
+abbrev their_cells : List Cell
+their_cells = cell.One (value.Time (pos 10400000000)) ∷ cell.One (value.Time (pos 9000000000)) ∷ []
+
+-- `< 10.5` of the second column, of either and of the event's time, which is the first
+tests_are_known : (map (λ pick. sure_test (record { pick = pick; rel = Lt; literal = Of (value.Time (pos 10500000000)) }) two_times their_cells) (Named (codes "b") ∷ OfKind elem.Time ∷ EventTime ∷ OfKind elem.Count ∷ []) ∷ map (λ pick. maybe_test (record { pick = pick; rel = Lt; literal = Of (value.Time (pos 10500000000)) }) two_times their_cells) (Named (codes "b") ∷ OfKind elem.Time ∷ EventTime ∷ OfKind elem.Count ∷ []) ∷ [])
+    ≡ ((true ∷ true ∷ false ∷ false ∷ []) ∷ (true ∷ true ∷ true ∷ false ∷ []) ∷ [])
+tests_are_known = refl
+
+abbrev so : Known
+so = record { sure = true; maybe = true }
+
+abbrev perhaps : Known
+perhaps = record { sure = false; maybe = true }
+
+abbrev not_so : Known
+not_so = record { sure = false; maybe = false }
+
+known_by_parts : map (level_known two_times their_cells) (level.Not so ∷ level.Not perhaps ∷ level.Not not_so ∷ level.And (so ∷ perhaps ∷ []) ∷ level.And (perhaps ∷ not_so ∷ []) ∷ level.And [] ∷ level.Or (so ∷ perhaps ∷ []) ∷ level.Or (not_so ∷ perhaps ∷ []) ∷ level.Or [] ∷ []) ≡ (not_so ∷ perhaps ∷ so ∷ perhaps ∷ not_so ∷ so ∷ so ∷ perhaps ∷ not_so ∷ [])
+known_by_parts = refl
