@@ -12,3 +12,4 @@ pub mod AskLemmas
 pub mod TableLemmas
 pub mod ViewLemmas
 pub mod PlaneLemmas
+mod Vectors

@@ -1,8 +1,9 @@
 -- Words of literal columns, and their places.
-use Rattle.std.proofs.Common.{◌≡◌, ℕ, zero, suc, ◌+◌, ◌-◌, ◌*◌, ◌/◌, ◌%◌, ◌^◌, ◌<◌, ◌≤◌, min, Bool, true, false, eqb, ◌⊎◌, ◌&&◌, ◌||◌, not, cond, List, [], ◌∷◌, ◌++◌, length, get_or, take, count_ones, refl, ap, sym, ◌∙◌, subst, inl, inr, arith}
-use Rattle.std.proofs.lemmas.Bool.{cases_eq, cases_Bool, eqb-true}
+use Rattle.std.proofs.Common.{◌≡◌, ℕ, zero, suc, ◌+◌, ◌-◌, ◌*◌, ◌/◌, ◌%◌, ◌^◌, ◌<◌, ◌≤◌, min, Bool, true, false, eqb, ltb, ◌⊎◌, ◌&&◌, ◌||◌, not, cond, List, [], ◌∷◌, ◌++◌, length, get_or, take, count_ones, refl, ap, sym, ◌∙◌, subst, inl, inr, arith}
+use Rattle.std.proofs.lemmas.Bool.{cases_eq, cases_lt, cases_Bool, eqb-true}
+use Rattle.std.proofs.lemmas.Bool.Decides.{nat_tests}
 use Rattle.std.proofs.lemmas.Nat.{ones_le_self, shr_split, shr-shr, pow_pos, mod_below}
-use Rattle.std.proofs.lemmas.Nat.Bits.{bit_at-lt, bit_at_xor}
+use Rattle.std.proofs.lemmas.Nat.Bits.{bit_at-lt, bit_at_xor, bit_at_clear_same, bit_at_clear_other}
 use Rattle.std.proofs.lemmas.Grind.{pow_more}
 use Rattle.std.proofs.Math.Nat.{div-div-eq-div-mul, div-one}
 use Rattle.std.proofs.lemmas.List.{take-append-le, take_all, length-take, get_or-take, length-append, get_or_append_left, get_or-append_right, get_or_push}
@@ -12,7 +13,7 @@ use lib.Count.{ones_step, ones_cat}
 use Rattle.bits_law.specs.declared.head.Head.{Head}
 use Rattle.bits_law.specs.Numbers.{has_bit}
 use Rattle.bits_law.specs.Packed.{no_head, column_word, IsInside, IsHead, AreHeads, AreFilled, Begins}
-use Rattle.bits_law.proofs.WordBits.{bit-none, bit-and, bit-or, bit-not, up_low, up_high, down}
+use Rattle.bits_law.proofs.WordBits.{bit-none, bit-and, bit-or, bit-not, Highest, up_low, up_high, down}
 
 -- the ones of a word from a bit up
 odd_bit : (x : ℕ) → eqb x 1 ≡ true → x ≡ 1
@@ -141,6 +142,93 @@ filled_skip old new literal c at word is clear_there f = record {
   where
     clash : {x y : Bool} → x ≡ y → x ≡ true → y ≡ false → ⊥
     clash p q r = cc
+
+-- no column from `c` up to `c + d` has a word
+pub filled_down : (old new : List ℕ) (own c d : ℕ) (word : ℕ → ℕ → Bool) → ((p : ℕ) → c ≤ p → p < c + d → has_bit own p ≡ false) → AreFilled old new own (c + d) word → AreFilled old new own c word
+filled_down old new own c zero word none f = subst (λ n. AreFilled old new own n word) (let same : c + 0 ≡ c = omega arith in same) f
+filled_down old new own c (suc d) word none f =
+    let up : c + suc d ≡ c + d + 1 = omega arith in
+    filled_down old new own c d word (λ p l u. none p l (omega arith)) (filled_skip old new own (c + suc d) (c + d) word up (none (c + d) (omega arith) (omega arith)) f)
+
+-- the bits of `own` below `at` are left
+abbrev pub IsLeft : ℕ → ℕ → ℕ → Type 0
+IsLeft left own at = (p : ℕ) → p < 64 → has_bit left p ≡ (has_bit own p && ltb p at)
+
+pub left_all : (own : ℕ) → IsLeft own own 64
+left_all own = λ p l. let yes : ltb p 64 ≡ true = grind (arith, nat_tests) in and_yes (has_bit own p) ∙ ap (λ x. has_bit own p && x) (sym yes)
+  where
+    and_yes : (x : Bool) → x ≡ (x && true)
+    and_yes true = refl
+    and_yes false = refl
+
+pub own_set : (left own at high : ℕ) → IsLeft left own at → Highest left high → has_bit own high ≡ true
+own_set left own at high is h = and_left (has_bit own high) (ltb high at) (sym (is high h.inside) ∙ h.was)
+  where
+    and_left : (x y : Bool) → (x && y) ≡ true → x ≡ true
+    and_left true y e = refl
+    and_left false y e = e
+
+pub left_less : (left own at high : ℕ) → IsLeft left own at → Highest left high → high < at
+left_less left own at high is h = below (has_bit own high) (sym (is high h.inside) ∙ h.was)
+  where
+    below : (b : Bool) → (b && ltb high at) ≡ true → high < at
+    below b e = elim (cases_lt high at) [
+      | inl less ↦ less
+      | inr past ↦ let no : ltb high at ≡ false = grind (arith, nat_tests) in absurd (never b (ap (λ x. b && x) (sym no) ∙ e))
+    ]
+      where
+        never : (b : Bool) → (b && false) ≡ true → ⊥
+        never true p = cc
+        never false p = cc
+
+pub left_more : (left own at high : ℕ) → own < 2 ^ 64 → IsLeft left own at → Highest left high → IsLeft (bit_and left (bit_not w64 (1 * 2 ^ high % 2 ^ 64))) own high
+left_more left own at high small is h = λ p l. elim (cases_eq p high) [
+  | inl same ↦
+      let no : ltb p high ≡ false = grind (arith, nat_tests) in
+      ap (λ n. has_bit (bit_and left (bit_not w64 (1 * 2 ^ high % 2 ^ 64))) n) same ∙ ap (λ x. eqb x 1) (bit_at_clear_same w64 left high h.inside) ∙ and_no (has_bit own p) (ltb p high) no
+  | inr other ↦ ap (λ x. eqb x 1) (bit_at_clear_other w64 left high h.inside p l other) ∙ elim (cases_lt p high) [
+    | inl less ↦
+        let now : ltb p high ≡ true = grind (arith, nat_tests) in
+        let before : ltb p at ≡ true = let down = left_less left own at high is h in grind (arith, nat_tests) in
+        is p l ∙ ap (λ x. has_bit own p && x) (before ∙ sym now)
+    | inr past ↦
+        let no : ltb p high ≡ false = grind (arith, nat_tests) in
+        h.above p (omega arith) ∙ and_no (has_bit own p) (ltb p high) no
+  ]
+]
+  where
+    and_no : (x y : Bool) → y ≡ false → false ≡ (x && y)
+    and_no true y e = sym e
+    and_no false y e = refl
+
+-- the columns above the highest that is left are filled in
+pub filled_above : (old new : List ℕ) (left own at high : ℕ) (word : ℕ → ℕ → Bool) → at ≤ 64 → IsLeft left own at → Highest left high → AreFilled old new own at word → AreFilled old new own (high + 1) word
+filled_above old new left own at high word wide is h f =
+    let down = left_less left own at high is h in
+    let up : at ≡ high + 1 + (at - (high + 1)) = omega (arith, down) in
+    filled_down old new own (high + 1) (at - (high + 1)) word (λ p l u. none p (omega arith) (omega (arith, up, u))) (subst (λ n. AreFilled old new own n word) up f)
+  where
+    none : (p : ℕ) → high < p → p < at → has_bit own p ≡ false
+    none p l u =
+        let yes : ltb p at ≡ true = grind (arith, nat_tests) in
+        and_yes (has_bit own p) ∙ ap (λ x. has_bit own p && x) (sym yes) ∙ sym (is p (omega (arith, wide))) ∙ h.above p l
+      where
+        and_yes : (x : Bool) → x ≡ (x && true)
+        and_yes true = refl
+        and_yes false = refl
+
+pub filled_end : (old new : List ℕ) (left own at : ℕ) (word : ℕ → ℕ → Bool) → at ≤ 64 → left ≡ 0 → IsLeft left own at → AreFilled old new own at word → AreFilled old new own 0 word
+filled_end old new left own at word wide empty is f =
+    filled_down old new own 0 at word (λ p l u. none p u) (subst (λ n. AreFilled old new own n word) (let same : at ≡ 0 + at = omega arith in same) f)
+  where
+    none : (p : ℕ) → p < 0 + at → has_bit own p ≡ false
+    none p u =
+        let yes : ltb p at ≡ true = grind (arith, nat_tests) in
+        and_yes (has_bit own p) ∙ ap (λ x. has_bit own p && x) (sym yes) ∙ sym (is p (omega (arith, wide))) ∙ ap (λ n. has_bit n p) empty ∙ bit-none p
+      where
+        and_yes : (x : Bool) → x ≡ (x && true)
+        and_yes true = refl
+        and_yes false = refl
 
 -- a column that repeats the one below it
 pub xor_same : (a b i : ℕ) → has_bit (bit_xor a b) i ≡ false → has_bit a i ≡ has_bit b i

@@ -1,12 +1,12 @@
 -- Lines that have a key's bits at each row that is asked.
-use Rattle.std.proofs.Common.{◌≡◌, ℕ, zero, suc, ◌+◌, ◌-◌, ◌*◌, ◌/◌, ◌%◌, ◌^◌, ◌<◌, ◌≤◌, min, Bool, true, false, cond, eqb, ltb, not, ◌&&◌, ◌||◌, List, [], get_or, refl, ap, sym, ◌∙◌, subst, inl, inr, arith}
+use Rattle.std.proofs.Common.{◌≡◌, ℕ, zero, suc, ◌+◌, ◌-◌, ◌*◌, ◌/◌, ◌%◌, ◌^◌, ◌<◌, ◌≤◌, min, Bool, true, false, cond, eqb, not, ◌&&◌, ◌||◌, List, [], get_or, refl, ap, sym, ◌∙◌, subst, arith}
 use Rattle.std.specs.Prelude.{bit_and, bit_or}
 use Rattle.std.specs.Int.{bit_not, w64, leading_zeros}
 use Rattle.std.proofs.lemmas.Nat.{leading_length}
 use Rattle.std.proofs.lemmas.Nat.Bits.{bit_at_above}
 use Rattle.bits_law.specs.declared.head.Head.{Head}
 use Rattle.bits_law.specs.Numbers.{has_bit}
-use Rattle.bits_law.specs.Blocks.{Lines, number_in, word_at}
+use Rattle.bits_law.specs.Blocks.{Lines, word_at}
 use Rattle.bits_law.specs.Packed.{column_word, line_word, no_head}
 use Rattle.bits_law.proofs.WordBits.{bit-none, bit-and, bit-or, bit-not, up_high, down}
 use Rattle.bits_law.proofs.AskLemmas.{AreHalves, halves_more}

@@ -1,9 +1,11 @@
 -- One bit of a word, and the bits of a word as a list.
 use Rattle.std.proofs.Common.{◌≡◌, ◌≢◌, ℕ, zero, suc, ◌+◌, ◌-◌, ◌*◌, ◌/◌, ◌%◌, ◌^◌, ◌<◌, ◌≤◌, min, max, Bool, true, false, eqb, not, ◌⊎◌, ◌&&◌, ◌||◌, [], ◌∷◌, length, get_or, refl, ap, sym, ◌∙◌, subst, inl, inr, arith}
 use Rattle.std.specs.Prelude.{bit_and, bit_or}
-use Rattle.std.specs.Int.{bit_at, bit_not, w64, trailing_zeros}
+use Rattle.std.specs.Int.{bit_at, bit_not, w64, trailing_zeros, leading_zeros}
 use Rattle.std.proofs.lemmas.Bool.{cases_lt, false≢true}
-use Rattle.std.proofs.lemmas.Nat.{and_le_l, shr-shr, shr_split, pow_pos}
+use Rattle.std.proofs.lemmas.Nat.{and_le_l, shr-shr, shr_split, pow_pos, leading_top}
+use Rattle.std.proofs.lemmas.Grind.{pow_more}
+use Rattle.std.proofs.Math.Nat.{div-eq_of_lt-le}
 use Rattle.std.proofs.lemmas.Nat.Bits.{bit_at_and, bit_at_or, bit_at_not, bit_at_ones, bit_at-lt, bit_at-zero, bit_at-suc, bit_at_lowest, bit_at-trailing_zeros, bit_at_set_same, bit_at_set_other, bit_at_clear_same, bit_at_clear_other, bit_at_cat_low, bit_at_cat_high, bit_at_above}
 use mir.Val.{bool_byte}
 use Rattle.bits_law.specs.Bitwise.{bits_below}
@@ -85,6 +87,26 @@ lowered left low some small e = record {
         let at_most : next ≤ left = and_le_l left (bit_not w64 (1 * 2 ^ low % 2 ^ 64)) in
         let is : next ≡ left = omega arith in
         false≢true (sym zero_there ∙ ap (λ n. has_bit n low) is ∙ one)
+
+-- the highest one of a word
+pub record Highest (left high : ℕ) : Type 0 where
+  pub inside : high < 64
+  pub was : has_bit left high ≡ true
+  pub above : (p : ℕ) → high < p → has_bit left p ≡ false
+
+pub highest : (left high : ℕ) → 0 < left → left < 2 ^ 64 → high ≡ 63 - leading_zeros w64 left → Highest left high
+highest left high some small e =
+    let top = leading_top 64 left some small in
+    let is : high ≡ top.0 = omega (arith, e, top.1) in
+    let power : 2 ^ (top.0 + 1) ≡ 2 ^ top.0 * 2 = pow_more 2 top.0 in
+    let next : suc top.0 ≡ top.0 + 1 = omega arith in
+    let under : left < 2 ^ (top.0 + 1) = subst (λ n. left < 2 ^ n) next top.3 in
+    let one : left / 2 ^ top.0 ≡ 1 = div-eq_of_lt-le (2 ^ top.0) (omega (arith, top.2)) (omega (arith, under, power)) in
+    record {
+      inside = omega (arith, is, top.1);
+      was = ap (has_bit left) is ∙ ap (λ x. eqb (x % 2) 1) one;
+      above = λ p l. ap (λ x. eqb x 1) (bit_at_above left (top.0 + 1) p under (omega (arith, is)));
+    }
 
 -- a word with one more bit, the lowest
 pub bit-then_lowest : (n b : ℕ) → b < 2 → has_bit (2 * n + b) 0 ≡ eqb b 1

@@ -147,13 +147,13 @@ fn fill(words: &mut Vec<u64>, keys: &[u64], taken: u64, own: u64) -> Result<(), 
     let mut plane = [0; 64];
     let mut made = 8;
     let mut at = 64;
-    while at > 0 {
-        at -= 1;
-        if has_bit(own, at) {
-            turn(&mut plane, keys, at / 8, made);
-            made = at / 8;
-            words.push(marks(&plane, at % 8) & taken)?;
-        }
+    let mut left = own;
+    while left != 0 {
+        at = 63 - left.leading_zeros() as usize;
+        left &= !(1 << at);
+        turn(&mut plane, keys, at / 8, made);
+        made = at / 8;
+        words.push(marks(&plane, at % 8) & taken)?;
     }
     Ok(())
 }

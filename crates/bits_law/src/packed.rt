@@ -36,6 +36,11 @@ fn add_heads(
     ensures heads { Begins heads.old.items heads.new.items }
     ensures words { Begins words.old.items words.new.items }
 {
+    if n == 1 {
+        let head = pack(words, keys, taken)?;
+        heads.push(head)?;
+        return Ok(());
+    }
     let mut column = [0; 64];
     for part in 0..n {
         gather(&mut column, keys, n, part);

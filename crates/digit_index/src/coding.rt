@@ -90,7 +90,8 @@ fn add_digit(words: &mut [u64], coding: Coding, from: usize, count: usize, digit
     };
     for part in first / 64..words.len().min((end + 63) / 64) {
         let start = 64 * part;
-        words[part] |= ones_from(first.saturating_sub(start)) & !ones_from(end.saturating_sub(start));
+        words[part] |= ones_from(first.saturating_sub(start))
+            & !ones_from(end.saturating_sub(start));
     }
 }
 

@@ -11,6 +11,7 @@ use bitmaps::Spent;
 use bits_law::Order;
 use indexes::{Plan, Work};
 use runs_bitmap::RunsBitmap;
+use std::alloc::Global;
 use std::process::ExitCode;
 use std::{env, io};
 use word_bitmap::WordBitmap;
@@ -66,34 +67,41 @@ fn main(rt: HostRuntime) -> anyhow::Result<ExitCode> {
             }
         }
     }
-    if what == Some("indexes") {
-        let work = words.next().and_then(|word| work(word.as_str()));
-        let rel = words.next().and_then(|word| relation(word.as_str()));
-        let first = words.next().and_then(|word| word.parse().ok());
-        let end = words.next().and_then(|word| word.parse().ok());
-        let rows = words.next().and_then(|word| word.parse().ok());
-        let part = words.next().and_then(|word| word.parse().ok());
-        let times = words.next().and_then(|word| word.parse().ok());
-        if let (Some(work), Some(rel), Some(first), Some(end)) = (work, rel, first, end) {
-            if let (Some(rows), Some(part), Some(times)) = (rows, part, times) {
-                let plan = Plan {
-                    rows,
-                    part,
-                    work,
-                    times,
-                    rel,
-                };
-                for column in first..end {
-                    if let Ok(told) = indexes::measure::<WordBitmap>(rt.alloc(), column, &plan) {
-                        println!(rt; "column {column} {told}")?;
-                    }
-                }
-                return Ok(ExitCode::SUCCESS);
-            }
-        }
+    if what == Some("indexes") && measured_indexes(&rt, &mut words)? {
+        return Ok(ExitCode::SUCCESS);
     }
     println!(rt; "usage: {USAGE}")?;
     Ok(ExitCode::from(1))
+}
+
+// The work on indexes that the words name, done, with a line for each column; or false where they name none.
+fn measured_indexes(rt: &HostRuntime, words: &mut env::Args<Global>) -> anyhow::Result<bool> {
+    let work = words.next().and_then(|word| work(word.as_str()));
+    let rel = words.next().and_then(|word| relation(word.as_str()));
+    let first = words.next().and_then(|word| word.parse().ok());
+    let end = words.next().and_then(|word| word.parse().ok());
+    let rows = words.next().and_then(|word| word.parse().ok());
+    let part = words.next().and_then(|word| word.parse().ok());
+    let times = words.next().and_then(|word| word.parse().ok());
+    let (Some(work), Some(rel), Some(first), Some(end)) = (work, rel, first, end) else {
+        return Ok(false);
+    };
+    let (Some(rows), Some(part), Some(times)) = (rows, part, times) else {
+        return Ok(false);
+    };
+    let plan = Plan {
+        rows,
+        part,
+        work,
+        times,
+        rel,
+    };
+    for column in first..end {
+        if let Ok(told) = indexes::measure::<WordBitmap>(rt.alloc(), column, &plan) {
+            println!(rt; "column {column} {told}")?;
+        }
+    }
+    Ok(true)
 }
 
 // The work that a word names.

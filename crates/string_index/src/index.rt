@@ -180,7 +180,9 @@ impl<B: Bits> StringIndex<B> {
         ensures keys { IfOk result (λ b. (keys : List (Option (List ℕ))) → Holds self.now.table keys → B.bits b ≡ answers (λ key. same_start key text.now) keys) }
     {
         let rows = self.table.ask(0, 64, Order::Eq, first_units(text))?;
-        let rows = self.table.ask_among(&rows, 64, 8, Order::Eq, byte(text, 7) as u64)?;
+        let rows = self
+            .table
+            .ask_among(&rows, 64, 8, Order::Eq, byte(text, 7) as u64)?;
         Ok(rows)
     }
 }

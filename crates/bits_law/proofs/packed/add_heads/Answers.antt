@@ -17,8 +17,8 @@ loop-part-preserved c =
     let i = c.loop-part.invariant in
     record {
       size = c.gather.ensures.size;
-      heads = subst (λ hs. AreHeads a.heads.now.items hs c.pack.new.words.items a.keys.now a.n (part + 1) a.taken) (sym c.in_ok-push.ensures.items)
-          (heads_more a.heads.now.items c.loop-part.heads.items c.loop-part.words.items c.pack.new.words.items a.keys.now a.n part a.taken c.in_ok-head.head c.pack.ensures.before
-          (head_of c.in_ok-head.head c.pack.new.words.items (λ i. get_or c.gather.new.column i 0) (λ i. get_or a.keys.now (i * a.n + part) 0) a.taken c.gather.ensures.same c.in_ok-head.ensures.ok) i.heads);
-      words = begins_trans a.words.now.items c.loop-part.words.items c.pack.new.words.items i.words c.pack.ensures.before;
+      heads = subst (λ hs. AreHeads a.heads.now.items hs c.pack-in-loop-part.new.words.items a.keys.now a.n (part + 1) a.taken) (sym c.in_ok-push-2.ensures.items)
+          (heads_more a.heads.now.items c.loop-part.heads.items c.loop-part.words.items c.pack-in-loop-part.new.words.items a.keys.now a.n part a.taken c.in_ok-head-2.head c.pack-in-loop-part.ensures.before
+          (head_of c.in_ok-head-2.head c.pack-in-loop-part.new.words.items (λ i. get_or c.gather.new.column i 0) (λ i. get_or a.keys.now (i * a.n + part) 0) a.taken c.gather.ensures.same c.in_ok-head-2.ensures.ok) i.heads);
+      words = begins_trans a.words.now.items c.loop-part.words.items c.pack-in-loop-part.new.words.items i.words c.pack-in-loop-part.ensures.before;
     }
