@@ -4,14 +4,17 @@ use Rattle.std.specs.Prelude.{IsSome, ◌==◌}
 use Rattle.std.specs.List.{position_or_len}
 use Rattle.vast_value.specs.declared.column.Column.{Column}
 use Rattle.vast_value.specs.declared.kind.Elem.TheVariants as elem
+use Rattle.vast_value.specs.declared.kind.Kind.{Kind}
 use Rattle.vast_value.specs.declared.kind.Kind.TheVariants as kind
+use Rattle.plain_cells.specs.Readable.{IsReadable}
 use Rattle.vast_value.specs.Headings.{field_of}
 use Rattle.value_reading.specs.declared.marks.Marks.{Marks}
 use Rattle.value_reading.specs.Reading.{cell_read}
 use Rattle.plain_cells.specs.Places.{CutsLine, places_of}
 use Rattle.zeek_log.specs.declared.looked.Look.{Look}
 use Rattle.zeek_log.specs.Lines.{is_newline}
-use Rattle.zeek_log.specs.Looks.{is_of_texts, looks_from}
+use Rattle.zeek_log.specs.declared.looked.Form.TheVariants.{Number, Port, Address, Seconds, Truth}
+use Rattle.zeek_log.specs.Looks.{form_of, is_of_texts, looks_from}
 use Rattle.zeek_log.specs.Plain.{AreInOrder, AreRead, cut_before, line_end, start_of}
 use Rattle.zeek_log.proofs.PlainLemmas.{end_is, order_at, place_at, start_kept, texts_readable, within_line}
 use Rattle.std.proofs.lemmas.List.{drop_all, get_or-take, length-take-le}
@@ -31,11 +34,38 @@ places_in_order p from end (x ∷ xs) is =
       | false ↦ order_sooner from end (places_of p (from + 1) xs ++ end ∷ []) more
     ]
 
+-- ---- forms
+
+pub number_form : (raw : List ℕ) → IsReadable (kind.One elem.Count) raw → IsReadable (kind.One elem.Int) raw
+    → (k : Kind) → form_of k ≡ Number → IsReadable k raw
+number_form raw count int (kind.One elem.Count) is = count
+number_form raw count int (kind.One elem.Int) is = int
+number_form raw count int _ is = cc
+
+pub port_form : (raw : List ℕ) → IsReadable (kind.One elem.Port) raw → (k : Kind) → form_of k ≡ Port → IsReadable k raw
+port_form raw port (kind.One elem.Port) is = port
+port_form raw port _ is = cc
+
+pub address_form : (raw : List ℕ) → IsReadable (kind.One elem.Addr) raw → (k : Kind) → form_of k ≡ Address → IsReadable k raw
+address_form raw address (kind.One elem.Addr) is = address
+address_form raw address _ is = cc
+
+pub seconds_form : (raw : List ℕ) → IsReadable (kind.One elem.Time) raw → IsReadable (kind.One elem.Span) raw
+    → (k : Kind) → form_of k ≡ Seconds → IsReadable k raw
+seconds_form raw time span (kind.One elem.Time) is = time
+seconds_form raw time span (kind.One elem.Span) is = span
+seconds_form raw time span _ is = cc
+
+pub truth_form : (raw : List ℕ) → IsReadable (kind.One elem.Bool) raw → (k : Kind) → form_of k ≡ Truth → IsReadable k raw
+truth_form raw truth (kind.One elem.Bool) is = truth
+truth_form raw truth _ is = cc
+
 -- ---- looks
 
 abbrev pub IsSeen : Marks → List ℕ → List ℕ → Look → Type 0
 IsSeen marks text places look =
-    IsSome (cell_read marks look.kind (take (get_or places look.column 0 - start_of places look.column) (drop (start_of places look.column) text)))
+    (k : Kind) → form_of k ≡ look.form
+    → IsSome (cell_read marks k (take (get_or places look.column 0 - start_of places look.column) (drop (start_of places look.column) text)))
 
 abbrev pub AreSeen : Marks → List ℕ → List ℕ → List Look → Type 0
 AreSeen marks text places [] = Unit {0}
@@ -51,14 +81,14 @@ one_below n rest look d bound false (suc at) this more below = more at (omega ar
 pub look_below : (columns : List Column) (n at : ℕ) (d : Look) → at < length (looks_from n columns) → (get_or (looks_from n columns) at d).column < n + length columns
 look_below [] n at d below = absurd (omega arith)
 look_below (c ∷ cs) n at d below =
-    one_below n (looks_from (n + 1) cs) (record { column = n; kind = c.kind }) d (n + suc (length cs)) (is_of_texts c.kind) at (omega arith)
+    one_below n (looks_from (n + 1) cs) (record { column = n; form = form_of c.kind }) d (n + suc (length cs)) (is_of_texts c.kind) at (omega arith)
     (λ k inside. omega (arith, look_below cs (n + 1) k d inside)) below
 
 look_or_texts : (marks : Marks) (text places : List ℕ) (at : ℕ) (c : Column) (cs : List Column) (t : Bool) → is_of_texts c.kind ≡ t
-    → AreSeen marks text places (cond t (looks_from (at + 1) cs) (record { column = at; kind = c.kind } ∷ looks_from (at + 1) cs))
+    → AreSeen marks text places (cond t (looks_from (at + 1) cs) (record { column = at; form = form_of c.kind } ∷ looks_from (at + 1) cs))
     → IsSome (cell_read marks c.kind (take (get_or places at 0 - start_of places at) (drop (start_of places at) text))) × AreSeen marks text places (looks_from (at + 1) cs)
 look_or_texts marks text places at c cs true is seen = (texts_readable c.kind (take (get_or places at 0 - start_of places at) (drop (start_of places at) text)) is marks, seen)
-look_or_texts marks text places at c cs false is seen = (seen.0, seen.1)
+look_or_texts marks text places at c cs false is seen = (seen.0 c.kind refl, seen.1)
 
 pub seen_read : (marks : Marks) (text places : List ℕ) (n count : ℕ) (columns : List Column) (at : ℕ) → at + length columns ≡ n → n ≤ length places
     → AreInOrder (start_of places at) count (drop at (take n places)) → AreSeen marks text places (looks_from at columns)
@@ -88,7 +118,7 @@ column_bounds places n count column order below few =
     (omega (arith, both.0, last, start), omega (arith, both.1, last))
 
 abbrev pub no_look : Look
-no_look = record { column = 0; kind = kind.One elem.Bool }
+no_look = record { column = 0; form = Number }
 
 -- where the cell of a look stands
 pub look_stands : (columns : List Column) (looks : List Look) (places : List ℕ) (count at : ℕ) (d : Look) → looks ≡ looks_from 0 columns → at < length looks
