@@ -83,8 +83,8 @@ fn are_plain(
     true
 }
 
-/// Whether the first so many bytes are seen to be a cell of the kind. `dash` says that the unset mark is known to be the usual
-/// one.
+/// Whether the first so many bytes are seen to be a cell of the kind. `dash` says that the unset mark is known to be
+/// the usual one.
 #[inline(always)]
 fn is_plain(marks: &Marks, dash: bool, form: Form, cell: &[u8], count: usize) -> bool
     requires dash { IsTrue dash → marks.now.unset ≡ 45 ∷ [] }
