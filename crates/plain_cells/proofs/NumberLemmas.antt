@@ -18,7 +18,8 @@ use Rattle.plain_cells.specs.Readable.{ReadsAs}
 use Rattle.plain_cells.proofs.DigitLemmas.{digit_bounds, digits_none, port_is}
 use Rattle.plain_cells.proofs.ReadableLemmas.{set_plain}
 
-digit_first : (t : Bool) (o : Option ℕ) (rest : Bool) (number : ℕ) → (o ≡ Some number → rest ≡ true) → cond t o None ≡ Some number → (t && rest) ≡ true
+digit_first : (t : Bool) (o : Option ℕ) (rest : Bool) (number : ℕ) → (o ≡ Some number → rest ≡ true)
+    → cond t o None ≡ Some number → (t && rest) ≡ true
 digit_first true o rest number more is = more is
 digit_first false o rest number more is = cc
 
@@ -26,7 +27,8 @@ digit_first false o rest number more is = cc
 behind_digits : (n : ℕ) (ds : List ℕ) (number : ℕ) → number_behind n ds ≡ Some number → list_all is_digit ds ≡ true
 behind_digits n [] number is = refl
 behind_digits n (d ∷ ds) number is =
-    digit_first (is_digit d) (number_behind (n * 10 + (d - 48)) ds) (list_all is_digit ds) number (behind_digits (n * 10 + (d - 48)) ds number) is
+    digit_first (is_digit d) (number_behind (n * 10 + (d - 48)) ds) (list_all is_digit ds) number
+    (behind_digits (n * 10 + (d - 48)) ds number) is
 
 then_some : (most n : ℕ) (o : Option ℕ) → option_and_then (if_at_most most) o ≡ Some n → (m : ℕ) × (o ≡ Some m)
 then_some most n None is = cc
@@ -47,18 +49,22 @@ other_than_dash (d ∷ ds) all =
     let other : eqb d 45 ≡ false = ne_eqb d 45 (λ same. omega arith) in
     rw other refl
 
-reads_as : (e : Elem) (raw : List ℕ) (v : Value) → is_text e ≡ false → list_all is_digit raw ≡ true → value_read e raw ≡ Some v → ReadsAs (kind.One e) raw (cell.One v)
+reads_as : (e : Elem) (raw : List ℕ) (v : Value) → is_text e ≡ false → list_all is_digit raw ≡ true
+    → value_read e raw ≡ Some v → ReadsAs (kind.One e) raw (cell.One v)
 unfolding cell_read
 reads_as e raw v plain all is marks usual =
     let other : bytes_eq raw marks.unset ≡ false = ap (bytes_eq raw) usual ∙ other_than_dash raw all in
     let set : set_read marks e raw ≡ Some v = set_plain marks e raw plain (digits_none 92 raw (omega arith) all) ∙ is in
     rw other (ap (option_map cell.One) set)
 
-pub count_reads : (raw : List ℕ) (n : ℕ) → number_up_to (2 ^ 64 - 1) raw ≡ Some n → ReadsAs (kind.One elem.Count) raw (cell.One (value.Count n))
+pub count_reads : (raw : List ℕ) (n : ℕ) → number_up_to (2 ^ 64 - 1) raw ≡ Some n
+    → ReadsAs (kind.One elem.Count) raw (cell.One (value.Count n))
 unfolding value_read
-count_reads raw n is = reads_as elem.Count raw (value.Count n) refl (up_to_digits (2 ^ 64 - 1) raw n is) (ap (option_map value.Count) is)
+count_reads raw n is =
+    reads_as elem.Count raw (value.Count n) refl (up_to_digits (2 ^ 64 - 1) raw n is) (ap (option_map value.Count) is)
 
-pub port_reads : (raw : List ℕ) (n : ℕ) → number_up_to 65535 raw ≡ Some n → ReadsAs (kind.One elem.Port) raw (cell.One (value.Port n Unknown))
+pub port_reads : (raw : List ℕ) (n : ℕ) → number_up_to 65535 raw ≡ Some n
+    → ReadsAs (kind.One elem.Port) raw (cell.One (value.Port n Unknown))
 unfolding value_read
 port_reads raw n is =
     let all = up_to_digits 65535 raw n is in

@@ -136,18 +136,21 @@ mask_drop (suc k) (b ∷ bs) =
     elim b as (λ t. (cond t 1 0 + 2 * m) / 2 ^ suc k ≡ mask_l (drop k bs)) [
       | true ↦
           let half : (1 + 2 * m) / 2 ≡ m = omega arith in
-          ap (λ (n : ℕ). (1 + 2 * m) / n) power ∙ sym (div-div-eq-div-mul (1 + 2 * m) 2 (2 ^ k)) ∙ ap (λ (h : ℕ). h / 2 ^ k) half
+          ap (λ (n : ℕ). (1 + 2 * m) / n) power ∙ sym (div-div-eq-div-mul (1 + 2 * m) 2 (2 ^ k)) ∙ ap
+          (λ (h : ℕ). h / 2 ^ k) half
           ∙ mask_drop k bs
       | false ↦
           let half : (0 + 2 * m) / 2 ≡ m = omega arith in
-          ap (λ (n : ℕ). (0 + 2 * m) / n) power ∙ sym (div-div-eq-div-mul (0 + 2 * m) 2 (2 ^ k)) ∙ ap (λ (h : ℕ). h / 2 ^ k) half
+          ap (λ (n : ℕ). (0 + 2 * m) / n) power ∙ sym (div-div-eq-div-mul (0 + 2 * m) 2 (2 ^ k)) ∙ ap
+          (λ (h : ℕ). h / 2 ^ k) half
           ∙ mask_drop k bs
     ]
 
 abbrev others_of : List ℕ → ℕ
 others_of bytes = mask_l (map (λ b. not (is_digit b)) bytes)
 
-pub marks_behind : (others : ℕ) (text : List ℕ) (at : ℕ) → at < 16 → others ≡ mask_l (map (λ b. not (is_digit b)) (take 16 text))
+pub marks_behind : (others : ℕ) (text : List ℕ) (at : ℕ) → at < 16
+    → others ≡ mask_l (map (λ b. not (is_digit b)) (take 16 text))
     → others / 2 ^ at ≡ mask_l (map (λ b. not (is_digit b)) (take (16 - at) (drop at text)))
 marks_behind others text at few is =
     let parts : 16 ≡ at + (16 - at) = omega arith in
@@ -160,8 +163,10 @@ unfolding count_trailing_zeros
 no_trailing = refl
 
 -- the digits before the first mark
-pub octet_marks : (text rest : List ℕ) (at others count : ℕ) → others ≡ mask_l (map (λ b. not (is_digit b)) (take (16 - at) (drop at text)))
-    → rest ≡ drop at text → at + 16 ≤ length text → at < 16 → count ≡ count_trailing_zeros 64 others → count ≤ 3 → AreDigits rest count
+pub octet_marks : (text rest : List ℕ) (at others count : ℕ)
+    → others ≡ mask_l (map (λ b. not (is_digit b)) (take (16 - at) (drop at text)))
+    → rest ≡ drop at text → at + 16 ≤ length text → at < 16 → count ≡ count_trailing_zeros 64 others → count ≤ 3
+    → AreDigits rest count
 octet_marks text rest at others count marks back room few is low =
     let v : List ℕ = take (16 - at) rest in
     let same : others ≡ others_of v = marks ∙ ap (λ (l : List ℕ). others_of (take (16 - at) l)) (sym back) in

@@ -42,8 +42,8 @@ fn marks_from(others: u64, text: &[u8], at: usize) -> u64
     others >> at
 }
 
-// Where an octet ends that begins at `at`, and before the last of the first 16 bytes. `others` marks which of these are no
-// digits, from that place on.
+// Where an octet ends that begins at `at`, and before the last of the first 16 bytes. `others` marks which of these
+// are no digits, from that place on.
 #[inline(always)]
 fn octet_end(text: &[u8], at: usize, others: u64) -> Option<usize>
     requires room { at + 16 ≤ length text.now }

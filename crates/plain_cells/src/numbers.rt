@@ -6,8 +6,8 @@ ghost use Rattle.plain_cells.specs.Readable.{ReadsAs};
 use value_reading::number_up_to;
 use vast_value::{Elem, Kind, PlainNumber};
 
-/// The number that a cell of a kind is, where its bytes are digits and no more, and the kind is a count or a port. `None` says
-/// nothing.
+/// The number that a cell of a kind is, where its bytes are digits and no more, and the kind is a count or a port.
+/// `None` says nothing.
 #[inline(always)]
 pub fn plain_number(kind: Kind, raw: &[u8]) -> Option<PlainNumber>
     ensures { IfSome result (λ number. ReadsAs kind raw.now (number_cell number)) }

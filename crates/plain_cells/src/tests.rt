@@ -1,4 +1,5 @@
 use super::*;
+use vast_value::{Elem, Kind, PlainNumber};
 
 /// A check of a cell.
 #[derive(Clone, Copy, Debug)]
@@ -151,4 +152,17 @@ fn places_of_a_line_are_found(rt: HostRuntime) {
     assert!(rt; line_places(b'\t', rest, &mut places) == Some(5));
     let (_, last) = LINE.split_at(69);
     assert!(rt; line_places(b'\t', last, &mut places).is_none());
+}
+
+// Digits are told as numbers: a clause says nothing of `None`.
+#[test]
+fn digits_are_plain_numbers(rt: HostRuntime) {
+    let count = Kind::One(Elem::Count);
+    let port = Kind::One(Elem::Port);
+    let most = PlainNumber::Count(u64::MAX);
+    assert!(rt; plain_number(count, b"18446744073709551615") == Some(most));
+    assert!(rt; plain_number(port, b"0053") == Some(PlainNumber::Port(53)));
+    for other in [b"65536".as_slice(), b"53/tcp", b"-", b""] {
+        assert!(rt; plain_number(port, other).is_none());
+    }
 }

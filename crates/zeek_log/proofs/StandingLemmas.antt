@@ -101,9 +101,11 @@ row_more row before out now column below so_far one =
     ∙ ap (λ (xs : List Cell). before ++ flat_map text xs) (sym (take_more row column cell.Unset below))
 
 -- one more cell was put into the row
-pub cells_more : (row so_far : List Cell) (x : Cell) (column : ℕ) → column < length row → so_far ≡ take column row → Some x ≡ slice_get row column
+pub cells_more : (row so_far : List Cell) (x : Cell) (column : ℕ) → column < length row → so_far ≡ take column row
+    → Some x ≡ slice_get row column
     → so_far ++ x ∷ [] ≡ take (column + 1) row
 cells_more row so_far x column below same at =
     let there = at ∙ slice_get-get_or row column cell.Unset below in
     let is : ◌≡◌ {A = Cell} x (get_or row column cell.Unset) = cc in
-    ap (λ (xs : List Cell). xs ++ x ∷ []) same ∙ ap (λ (y : Cell). take column row ++ y ∷ []) is ∙ sym (take_more row column cell.Unset below)
+    ap (λ (xs : List Cell). xs ++ x ∷ []) same ∙ ap (λ (y : Cell). take column row ++ y ∷ []) is ∙ sym
+    (take_more row column cell.Unset below)

@@ -24,7 +24,8 @@ use Rattle.zeek_log.specs.declared.step.ZeekEnd.TheVariants.{Done, Fault, ReadFa
 use Rattle.zeek_log.specs.Going.{lines_left}
 use Rattle.zeek_log.specs.Heads.{Told, opened, opening, single_byte, separator_of, fault_of, name_fault, names_fault, unless_at, names_read, within_brackets, is_floating, kind_read, then_kind, kinds_read}
 use Rattle.zeek_log.specs.Laws.{IsWritable, written_log, is_plain, has_data_line}
-use Rattle.zeek_log.specs.Looks.{looks_from}
+use Rattle.zeek_log.specs.declared.looked.Form.TheVariants as form
+use Rattle.zeek_log.specs.Looks.{form_of, looks_from}
 use Rattle.zeek_log.specs.Numbers.{number_in}
 use Rattle.zeek_log.specs.Lines.{is_too_long, last_line, lines_of, pieces_of}
 use Rattle.zeek_log.specs.Reader.{State, Reads, Last, Ended, Reading, EndsAs, Follows, MayFollow, IsMetAtLast, CountsOf, come_from, heading_told}
@@ -531,8 +532,11 @@ none_at_last e = omega arith
 abbrev column_of : Kind → Column
 column_of k = record { name = codes "c"; kind = k; short = lit≤ tt }
 
-wanted_looks : looks_from 5 (map column_of (kind.One elem.Text ∷ (kind.One elem.Port ∷ (kind.SetOf elem.Name ∷ (kind.VecOf elem.Addr ∷ []))))) ≡ record { column = 6; kind = kind.One elem.Port } ∷ (record { column = 8; kind = kind.VecOf elem.Addr } ∷ [])
+wanted_looks : looks_from 5 (map column_of (kind.One elem.Text ∷ (kind.One elem.Port ∷ (kind.SetOf elem.Name ∷ (kind.VecOf elem.Addr ∷ []))))) ≡ record { column = 6; form = form.Port } ∷ (record { column = 8; form = form.Other } ∷ [])
 wanted_looks = refl
+
+forms : map form_of (kind.One elem.Count ∷ (kind.One elem.Int ∷ (kind.One elem.Time ∷ (kind.One elem.Subnet ∷ (kind.SetOf elem.Count ∷ []))))) ≡ form.Number ∷ (form.Number ∷ (form.Seconds ∷ (form.Other ∷ (form.Other ∷ []))))
+forms = refl
 
 -- Numbers of cells.
 numbers_in_cells : (number_in (Some (One (Count 53))) ∷ number_in (Some (One (Port 80 Tcp))) ∷ number_in (Some (One (Text []))) ∷ number_in (Some Unset) ∷ number_in None ∷ []) ≡ (Some 53 ∷ Some 80 ∷ None ∷ None ∷ None ∷ [])

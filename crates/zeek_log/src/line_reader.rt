@@ -175,8 +175,8 @@ impl LineReader {
         plain_row(alloc, &self.known, self.block.as_slice(), places, count)
     }
 
-    /// The number that the cell of a column of the plain line is that is at the front of the bytes held, where it is seen to be
-    /// one. `None` says nothing.
+    /// The number that the cell of a column of the plain line is that is at the front of the bytes held, where it is
+    /// seen to be one. `None` says nothing.
     pub fn plain_number(&self, places: &[u32], count: usize, column: usize) -> Option<PlainNumber>
         requires plain { IsPlainAt self.now.state self.now.held places.now count }
         requires within { column < count }

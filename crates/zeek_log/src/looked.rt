@@ -1,17 +1,45 @@
 //! Layouts, and which of their cells want a look.
 ghost use Rattle.std.specs.Prelude.{◌≡◌, ◌++◌, IfOk, OnOk, if◌then◌else◌};
 ghost use Rattle.value_text.specs.Reading.{is_text};
-ghost use Rattle.zeek_log.specs.Looks.{is_of_texts, looks_from};
+ghost use Rattle.zeek_log.specs.Looks.{form_of, is_of_texts, looks_from};
 
 use std::alloc::{AllocError, Global};
 use std::marker::Model;
 use vast_value::{Column, Elem, Kind, Layout, Seq};
 
+/// How the bytes of a cell are looked at.
+#[derive(Clone, Copy, Debug, PartialEq, Eq)]
+pub enum Form {
+    /// A count or an int.
+    Number,
+    Port,
+    Address,
+    /// A time or an interval.
+    Seconds,
+    Truth,
+    /// A subnet, or a container of others than texts: only an unset one is seen to be well spelled.
+    Other,
+}
+
+/// The form of a kind's cells.
+fn form_of(kind: Kind) -> Form
+    ensures { result ≡ form_of kind }
+{
+    match kind {
+        Kind::One(Elem::Count | Elem::Int) => Form::Number,
+        Kind::One(Elem::Port) => Form::Port,
+        Kind::One(Elem::Addr) => Form::Address,
+        Kind::One(Elem::Time | Elem::Span) => Form::Seconds,
+        Kind::One(Elem::Bool) => Form::Truth,
+        _ => Form::Other,
+    }
+}
+
 /// A column, counted from 0, whose cells are well spelled only where their bytes are.
 #[derive(Clone, Copy, Debug, PartialEq, Eq, Drop)]
 pub struct Look {
     pub column: usize,
-    pub kind: Kind,
+    pub form: Form,
 }
 
 /// A layout with the columns whose cells want a look, which are all but those of texts. Contracts see the layout alone.
@@ -65,7 +93,7 @@ fn looks_of(alloc: Global, columns: &[Column]) -> Result<Seq<Look>, AllocError>
         if !is_of_texts(column.kind) {
             looks.push(Look {
                 column: at,
-                kind: column.kind,
+                form: form_of(column.kind),
             })?;
         }
     }

@@ -5,18 +5,18 @@ ghost use Rattle.vast_value.specs.Headings.{field_of};
 ghost use Rattle.value_text.specs.Reading.{cell_read};
 ghost use Rattle.vast_value.specs.declared.kind.Kind.{Kind};
 ghost use Rattle.zeek_log.specs.Answers.{told_of};
+ghost use Rattle.zeek_log.specs.Looks.{form_of};
 ghost use Rattle.zeek_log.specs.Plain.{AreInOrder, AreRead, IsPlain, cut_before};
 
 use crate::known::Known;
 use crate::line::MOST_LINE;
-use crate::looked::LookedLayout;
+use crate::looked::{Form, LookedLayout};
 use crate::plain_row::{end_of, start_of};
 use plain_cells::{
     is_plain_address, is_plain_bool, is_plain_count, is_plain_groups, is_plain_port, is_plain_time,
     line_places,
 };
 use value_text::Marks;
-use vast_value::{Elem, Kind};
 
 /// So many bytes behind a line may be looked at with it.
 const SPARE: usize = 64;
@@ -76,25 +76,25 @@ fn are_plain(
         let from = start_of(places, look.column);
         let to = end_of(places, look.column);
         let (_, cell) = text.split_at(from);
-        if !is_plain(marks, dash, look.kind, cell, to - from) {
+        if !is_plain(marks, dash, look.form, cell, to - from) {
             return false;
         }
     }
     true
 }
 
-/// Whether the first so many bytes are seen to be a cell of the kind. `dash` says that the unset mark is known to be the usual
-/// one.
+/// Whether the first so many bytes are seen to be a cell of the kind. `dash` says that the unset mark is known to be
+/// the usual one.
 #[inline(always)]
-fn is_plain(marks: &Marks, dash: bool, kind: Kind, cell: &[u8], count: usize) -> bool
+fn is_plain(marks: &Marks, dash: bool, form: Form, cell: &[u8], count: usize) -> bool
     requires dash { IsTrue dash → marks.now.unset ≡ 45 ∷ [] }
     requires spare { count + 32 ≤ length cell.now }
-    ensures { IsTrue result → IsSome (cell_read marks.now kind (take count cell.now)) }
+    ensures { IsTrue result → (kind : Kind) → form_of kind ≡ form → IsSome (cell_read marks.now kind (take count cell.now)) }
 {
     if dash && is_dash_cell(cell, count) {
         return true;
     }
-    is_plain_of(kind, cell, count) || is_unset(marks, cell, count)
+    is_plain_form(form, cell, count) || is_unset(marks, cell, count)
 }
 
 /// Whether the unset mark is the usual one.
@@ -124,30 +124,19 @@ fn is_unset(marks: &Marks, text: &[u8], count: usize) -> bool
     raw == marks.unset.as_slice()
 }
 
+/// Whether the first so many bytes are seen to be a cell of each kind of the form.
 #[inline(always)]
-fn is_plain_of(kind: Kind, text: &[u8], count: usize) -> bool
+#[tactic(auto, using(crate::proofs::LookLemmas::number_form, crate::proofs::LookLemmas::port_form, crate::proofs::LookLemmas::address_form, crate::proofs::LookLemmas::seconds_form, crate::proofs::LookLemmas::truth_form))]
+fn is_plain_form(form: Form, text: &[u8], count: usize) -> bool
     requires { count + 32 ≤ length text.now }
-    ensures { IsTrue result → IsReadable kind (take count text.now) }
+    ensures { IsTrue result → (kind : Kind) → form_of kind ≡ form → IsReadable kind (take count text.now) }
 {
-    match kind {
-        Kind::One(elem) => is_plain_one(elem, text, count),
-        _ => false,
-    }
-}
-
-#[inline(always)]
-fn is_plain_one(elem: Elem, text: &[u8], count: usize) -> bool
-    requires { count + 32 ≤ length text.now }
-    ensures { IsTrue result → IsReadable (Kind.One elem) (take count text.now) }
-{
-    match elem {
-        Elem::Count => is_plain_count(text, count),
-        Elem::Int => is_plain_count(text, count),
-        Elem::Port => is_plain_port(text, count),
-        Elem::Addr => is_plain_address(text, count) || is_plain_groups(text, count),
-        Elem::Time => is_plain_time(text, count),
-        Elem::Span => is_plain_time(text, count),
-        Elem::Bool => is_plain_bool(text, count),
-        Elem::Text | Elem::Name | Elem::Subnet => false,
+    match form {
+        Form::Number => is_plain_count(text, count),
+        Form::Port => is_plain_port(text, count),
+        Form::Address => is_plain_address(text, count) || is_plain_groups(text, count),
+        Form::Seconds => is_plain_time(text, count),
+        Form::Truth => is_plain_bool(text, count),
+        Form::Other => false,
     }
 }

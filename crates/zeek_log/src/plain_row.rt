@@ -213,8 +213,8 @@ pub fn plain_row(
     Ok(row)
 }
 
-/// The number that the cell of a column of the plain line is that is at the front of the bytes held, where it is seen to be
-/// one. `None` says nothing.
+/// The number that the cell of a column of the plain line is that is at the front of the bytes held, where it is seen
+/// to be one. `None` says nothing.
 pub fn plain_number(
     known: &Known,
     held: &[u8],

@@ -166,8 +166,8 @@ impl ZeekReader {
         self.lines.layout()
     }
 
-    /// The number of a count or of a port in a column, counted from 0, of the row at which the reader stands, where it is seen
-    /// to be a plain one. `None` says nothing of the cell.
+    /// The number of a count or of a port in a column, counted from 0, of the row at which the reader stands, where
+    /// it is seen to be a plain one. `None` says nothing of the cell.
     pub fn number(&self, column: usize) -> Option<u64>
         ensures { IfSome result (λ number. number_in (slice_get self.now.row column) ≡ Some number) }
     {

@@ -12,12 +12,16 @@ use Rattle.zeek_log.proofs.plain.plain_line.Goals as goal
 
 pub are_plain-requires-clause-places : goal.are_plain-requires-clause-places
 are_plain-requires-clause-places c =
-    let same = c.if-count-columns.false ∙ ap length (c.columns-columns.ensures ∙ ap (λ (l : Layout). l.columns) c.layout.ensures) in
+    let same =
+    c.if-count-columns.false ∙ ap length
+    (c.columns-columns.ensures ∙ ap (λ (l : Layout). l.columns) c.layout.ensures) in
     omega (arith, same, c.in_ok-count.ensures.cuts.within)
 
 pub are_plain-requires-clause-order : goal.are_plain-requires-clause-order
 are_plain-requires-clause-order c =
-    let same = c.if-count-columns.false ∙ ap length (c.columns-columns.ensures ∙ ap (λ (l : Layout). l.columns) c.layout.ensures) in
+    let same =
+    c.if-count-columns.false ∙ ap length
+    (c.columns-columns.ensures ∙ ap (λ (l : Layout). l.columns) c.layout.ensures) in
     let places = c.line_places.new.places in
     subst (λ (n : ℕ). AreInOrder 0 (line_end places c.in_ok-count.count) (take n places)) same
     (line_in_order c.args.known.now.separator c.args.held.now places c.in_ok-count.count c.in_ok-count.ensures.cuts)
@@ -33,9 +37,13 @@ returns c =
     let stands = ap (option_map heading_of) c.in-Some.is in
     let path = path_some known.path c.is_empty.result
     (c.is_empty.ensures ∙ ap (λ (xs : List ℕ). length xs == 0) c.as_slice.ensures) c.if-is_empty.false in
-    let long = c.if-count-columns.false ∙ ap length (c.columns-columns.ensures ∙ ap (λ (l : Layout). l.columns) c.layout.ensures) in
+    let long =
+    c.if-count-columns.false ∙ ap length
+    (c.columns-columns.ensures ∙ ap (λ (l : Layout). l.columns) c.layout.ensures) in
     let same = long ∙ sym (length-map layout.columns field_of) in
     let are : AreRead known.marks (map field_of layout.columns) (cut_before (take count places) 0 line) =
-    subst (λ (n : ℕ). AreRead known.marks (map field_of layout.columns) (cut_before (take n places) 0 line)) (sym long) (c.if-not-are_plain.ensures refl) in
-    plain_is (told_of known) (heading_of layout) held places count c.in_ok-count.ensures.cuts stands path same (c.if-not-may_be_row.ensures refl)
+    subst (λ (n : ℕ). AreRead known.marks (map field_of layout.columns) (cut_before (take n places) 0 line)) (sym long)
+    (c.if-not-are_plain.ensures refl) in
+    plain_is (told_of known) (heading_of layout) held places count c.in_ok-count.ensures.cuts stands path same
+    (c.if-not-may_be_row.ensures refl)
     are (line_in_order known.separator held places count c.in_ok-count.ensures.cuts)

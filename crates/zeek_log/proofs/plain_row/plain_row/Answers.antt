@@ -10,7 +10,8 @@ loop-column-preserved c =
     let told = told_of c.args.known.now in
     let row = cells_or_none (row_in told (take (line_end c.args.places.now c.args.count) c.args.held.now)) in
     let long = plain_count told c.args.held.now c.args.places.now c.args.count c.requires in
-    c.in_ok-push.ensures.ok ∙ cells_more row c.loop-column.row c.in_ok-cell.cell c.loop-column.column (omega (arith, long)) c.loop-column.invariant c.in_ok-cell.ensures
+    c.in_ok-push.ensures.ok ∙ cells_more row c.loop-column.row c.in_ok-cell.cell c.loop-column.column
+    (omega (arith, long)) c.loop-column.invariant c.in_ok-cell.ensures
 
 pub returns : goal.returns
 returns c =
