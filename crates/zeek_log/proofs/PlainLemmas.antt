@@ -1,7 +1,7 @@
 -- A line whose cells are seen to be well spelled is a row.
-use Rattle.std.proofs.Common.{◌≡◌, ◌≢◌, ℕ, zero, suc, ◌+◌, ◌-◌, ◌<◌, ◌≤◌, Bool, true, false, cond, eqb, List, [], ◌∷◌, ◌++◌, Option, None, Some, Result, Ok, Err, length, take, drop, get_or, map, refl, ap, sym, ◌∙◌, subst, arith, length-append, add-one}
+use Rattle.std.proofs.Common.{◌≡◌, ◌≢◌, ℕ, zero, suc, ◌+◌, ◌-◌, ◌<◌, ◌≤◌, Bool, true, false, List, [], ◌∷◌, ◌++◌, Option, None, Some, Result, Ok, Err, length, take, drop, get_or, map, refl, ap, sym, ◌∙◌, subst, arith, length-append, add-one}
 use Rattle.std.specs.Prelude.{IsSome, IsSomeAnd, ◌==◌, codes, slice_get}
-use Rattle.std.specs.List.{flat_map, join_with_byte, position_or_len, slice_split}
+use Rattle.std.specs.List.{flat_map, join_with_byte, position_or_len}
 use Rattle.std.specs.Option.{option_map}
 use Rattle.std.proofs.lemmas.Bool.{eq-eqb, le-ltb, ne_eqb}
 use Rattle.std.proofs.lemmas.List.{append-nil, drop-take, get_or-take, length-drop, length-take-le, map_more, take-take, take_all, take_more}
@@ -14,8 +14,6 @@ use Rattle.vast_value.specs.declared.kind.Elem.TheVariants as elem
 use Rattle.vast_value.specs.declared.column.Column.{Column}
 use Rattle.vast_value.specs.declared.kind.Kind.{Kind}
 use Rattle.vast_value.specs.declared.kind.Kind.TheVariants as kind
-use Rattle.vast_value.specs.declared.value.Value.{Value}
-use Rattle.vast_value.specs.declared.value.Value.TheVariants as value
 use Rattle.vast_value.specs.declared.cell.Cell.{Cell}
 use Rattle.vast_value.specs.declared.cell.Cell.TheVariants as cell
 use Rattle.vast_value.specs.Headings.{Field, Heading, field_of}
@@ -36,7 +34,7 @@ use Rattle.zeek_log.specs.Lines.{is_newline, is_too_long, pieces_of}
 use Rattle.zeek_log.specs.Looks.{is_of_texts}
 use Rattle.zeek_log.specs.Plain.{AreInOrder, AreRead, IsOwnPiece, IsPlain, IsWrittenAs, cells_or_none, cut_before, line_end, row_in, row_under, start_of}
 use Rattle.zeek_log.proofs.LawLemmas.{pieces_joined}
-use Rattle.zeek_log.specs.Table.{Gives, Line, Outcome, cells_read, data_line, data_told, line_outcome, row_read, row_told, then_cell}
+use Rattle.zeek_log.specs.Table.{Gives, Line, cells_read, data_line, data_told, line_outcome, row_read, row_told, then_cell}
 
 -- ---- cells that need no look at their bytes
 

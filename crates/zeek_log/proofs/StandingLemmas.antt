@@ -12,7 +12,7 @@ use Rattle.vast_value.specs.Headings.{Heading}
 use Rattle.zeek_log.specs.Going.{is_reading}
 use Rattle.zeek_log.specs.Heads.{Told}
 use Rattle.zeek_log.specs.Plain.{IsPlain, cells_or_none, line_end, row_in}
-use Rattle.zeek_log.specs.Reader.{Reading, State, Reads, Last, Ended, StepsOn, Follows, StepHas, heading_told}
+use Rattle.zeek_log.specs.Reader.{Reading, State, Reads, Last, Ended, Follows, StepHas, heading_told}
 use Rattle.zeek_log.specs.Standing.{IsPlainAt, behind_line, line_cells, next_state}
 use Rattle.zeek_log.specs.Table.{Line}
 use Rattle.zeek_log.proofs.GoingLemmas.{line_steps}

@@ -1,5 +1,4 @@
 use Rattle.std.proofs.Common.{arith}
-use Rattle.std.proofs.lemmas.List.{length-drop}
 use Rattle.zeek_log.proofs.LookLemmas.{all_seen, look_stands, no_look}
 use Rattle.zeek_log.proofs.plain.are_plain.Goals as goal
 

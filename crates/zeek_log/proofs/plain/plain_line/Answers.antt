@@ -1,7 +1,6 @@
-use Rattle.std.proofs.Common.{◌≡◌, ◌==◌, ℕ, List, get_or, length, map, take, ap, refl, subst, sym, ◌∙◌, arith}
+use Rattle.std.proofs.Common.{◌==◌, ℕ, List, length, map, take, ap, refl, subst, sym, ◌∙◌, arith}
 use Rattle.std.specs.Option.{option_map}
 use Rattle.std.proofs.lemmas.List.{length-map}
-use Rattle.vast_value.specs.declared.column.Column.{Column}
 use Rattle.vast_value.specs.declared.layout.Layout.{Layout}
 use Rattle.vast_value.specs.Headings.{field_of, heading_of}
 use Rattle.zeek_log.specs.Answers.{told_of}

@@ -1,6 +1,5 @@
-use Rattle.std.proofs.Common.{◌≡◌, ℕ, List, length, map, take, ap, refl, sym, ◌∙◌, arith}
+use Rattle.std.proofs.Common.{map, take, ap, refl, sym, ◌∙◌, arith}
 use Rattle.std.proofs.lemmas.List.{take_all}
-use Rattle.vast_value.specs.declared.cell.Cell.{Cell}
 use Rattle.value_text.specs.Writing.{cell_text}
 use Rattle.zeek_log.specs.Answers.{told_of}
 use Rattle.zeek_log.specs.Lines.{pieces_of}

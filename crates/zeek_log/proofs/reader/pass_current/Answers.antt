@@ -1,7 +1,7 @@
 use Rattle.std.proofs.Common.{subst, arith}
 use Rattle.zeek_log.specs.declared.reader.Current.{Current}
 use Rattle.zeek_log.specs.Standing.{IsPlainAt, StandsWell}
-use Rattle.zeek_log.proofs.StandingLemmas.{some_cell, few_cells, line_within, still_reads}
+use Rattle.zeek_log.proofs.StandingLemmas.{some_cell}
 use Rattle.zeek_log.proofs.reader.pass_current.Goals as goal
 
 pub overflow_sub-count : goal.overflow_sub-count

@@ -1,7 +1,5 @@
-use Rattle.std.proofs.Common.{ap, sym, subst, ◌∙◌, ◌<◌}
-use Rattle.zeek_log.specs.Going.{lines_left}
-use Rattle.zeek_log.specs.Reader.{Reading, Standing}
-use Rattle.zeek_log.specs.Standing.{next_state}
+use Rattle.std.proofs.Common.{ap, sym, ◌∙◌}
+use Rattle.zeek_log.specs.Reader.{Standing}
 use Rattle.zeek_log.proofs.StandingLemmas.{plain_follows, plain_has}
 use Rattle.zeek_log.proofs.reader.ZeekReader.advance_in_place.Goals as goal
 
