@@ -1,7 +1,7 @@
 //! Logs by hand.
 ghost use Rattle.std.specs.Prelude.{◌≤◌};
 
-use crate::{Step, ZeekEnd, ZeekFault, ZeekReader};
+use crate::{Moved, Step, ZeekEnd, ZeekFault, ZeekReader};
 use std::alloc::{AllocError, Global};
 use std::test::Fail;
 use vast_io::MemSource;
@@ -127,5 +127,27 @@ fn a_failed_read_in_a_line_is_the_end_behind_the_lines_before(rt: HostRuntime) -
     let told = read_all(rt.alloc(), LOG, 8, fails)?;
     assert_eq!(rt; (told.heads, told.rows), (1, 1));
     assert_eq!(rt; told.end, ZeekEnd::ReadFault);
+    Ok(())
+}
+
+// A reader in place tells numbers and makes rows: no clause says that it does the first.
+#[test]
+fn a_line_in_place_tells_its_numbers_and_its_row(rt: HostRuntime) -> Result<(), Fail> {
+    let mut copy = Bytes::new(rt.alloc());
+    copy.append(
+        b"#path\td\n#fields\tp\tn\ts\n#types\tport\tcount\tset[string]\n53\t7\ta,b\n5/udp\t-\t-\n",
+    )?;
+    copy.append(&[b'#'; 80])?;
+    let mut source = MemSource::new(copy, 1000, Vec::new(rt.alloc()));
+    let mut reader = ZeekReader::new(rt.alloc())?;
+    assert!(rt; reader.advance(rt.alloc(), &mut source) == Ok(Moved::Head));
+    assert!(rt; reader.number(0).is_none());
+    assert!(rt; reader.advance_in_place());
+    assert!(rt; reader.number(0) == Some(53) && reader.number(1) == Some(7));
+    assert!(rt; reader.number(2).is_none() && reader.number(3).is_none());
+    assert_eq!(rt; reader.row(rt.alloc())?.as_slice().len(), 3);
+    assert!(rt; reader.advance(rt.alloc(), &mut source) == Ok(Moved::Line));
+    assert!(rt; reader.number(0).is_none() && reader.number(1).is_none());
+    assert_eq!(rt; reader.row(rt.alloc())?.as_slice().len(), 3);
     Ok(())
 }
