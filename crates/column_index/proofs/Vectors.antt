@@ -1,12 +1,12 @@
 -- Values that the definitions have, computed by the prover. Each is false where its definition is wrong.
-use Rattle.std.proofs.Common.{◌≡◌, pos, negsuc, Bool, true, false, List, [], ◌∷◌, codes, None, Some, map, refl}
+use Rattle.std.proofs.Common.{◌≡◌, pos, negsuc, true, false, [], ◌∷◌, codes, None, Some, map, refl}
 use Rattle.vast_value.specs.declared.cell.Cell.TheVariants as cell
 use Rattle.vast_value.specs.declared.kind.Elem.TheVariants as elem
 use Rattle.vast_value.specs.declared.kind.Kind.TheVariants as kind
 use Rattle.vast_value.specs.declared.transport.Transport.TheVariants.{Udp}
 use Rattle.vast_value.specs.declared.value.Value.TheVariants as value
 use Rattle.bits_law.specs.declared.slices.Order.TheVariants as order
-use Rattle.query_meaning.specs.declared.expr.Rel.TheVariants.{Eq, Ne, Lt, Le, Gt, Ge, Within, Contains}
+use Rattle.query_meaning.specs.declared.expr.Rel.TheVariants.{Eq, Ne, Lt, Le, Ge, Within, Contains}
 use Rattle.column_index.specs.declared.asked.Asked.TheVariants.{Never, Set, Ordered}
 use Rattle.column_index.specs.Asked.{asked_test, exactly, surely, maybe_so}
 use Rattle.column_index.specs.Columns.{biased, number_of, keys_of, number_key, port_key, transport_key, text_key, fits_kind}

@@ -1,3 +1,5 @@
+ghost use Rattle.std.specs.Prelude.{◌≤◌, ◌^◌, length};
+
 use crate::{Bitmap, ColumnIndex};
 use bits_law::{Bits, BitsEnd};
 use query_meaning::{Literal, Pick, Rel, Test};
@@ -58,7 +60,9 @@ fn says<R: Abort + AllocGlobal>(
     Ok(())
 }
 
-fn text(alloc: Global, bytes: &[u8]) -> Result<Value, AllocError> {
+fn text(alloc: Global, bytes: &[u8]) -> Result<Value, AllocError>
+    requires { length bytes.now ≤ 2 ^ 24 }
+{
     Ok(Value::Text(Bytes::copy(alloc, bytes)?))
 }
 
