@@ -1,4 +1,0 @@
-pub mod Replies
-pub mod Searches
-pub mod Shown
-pub mod Stores

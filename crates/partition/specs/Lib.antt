@@ -1,4 +1,0 @@
-pub mod Columns
-pub mod Indexes
-pub mod Merged
-pub mod Parts
