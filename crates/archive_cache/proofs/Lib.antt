@@ -1,0 +1,3 @@
+pub mod EntryLemmas
+pub mod AskLemmas
+mod Vectors
