@@ -1,9 +1,9 @@
 -- What an ask makes of a cache, by what it makes of the entries.
-use Rattle.std.proofs.Common.{◌≡◌, ℕ, zero, suc, ◌+◌, ◌-◌, ◌<◌, ◌≤◌, Bool, true, false, cond, List, [], ◌∷◌, map, take, length, nat_eq, Option, None, Some, is_some, IfSome, option_map, refl, ap, sym, ◌∙◌, subst, arith}
+use Rattle.std.proofs.Common.{◌≡◌, ℕ, zero, suc, ◌+◌, ◌-◌, ◌<◌, ◌≤◌, cond, List, [], ◌∷◌, map, take, length, nat_eq, Option, None, Some, is_some, IfSome, option_map, refl, ap, sym, ◌∙◌, subst, arith}
 use Rattle.std.specs.Arc.{arc_value}
 use Rattle.std.specs.List.{IsDistinct, take-map}
 use Rattle.std.specs.Option.{option_map_or}
-use Rattle.std.specs.Map.{keys_of, lookup, lookup_entry, remove_entry}
+use Rattle.std.specs.Map.{lookup, remove_entry}
 use Rattle.std.specs.declared.alloc.Global.{Global}
 use Rattle.std.specs.declared.sync.Arc.{Arc}
 use Rattle.std.proofs.lemmas.Map.Made.{lookup-map_values}
@@ -24,7 +24,7 @@ pub is_cache : (c : LruCache ℕ Shared) → IsValid nat_eq c → IsCache (cachi
 is_cache c valid = record {
   once = subst (IsDistinct nat_eq) (sym (keys_told said c.entries)) valid.0;
   bounded = rw (length_told said c.entries) valid.1;
-  some = omega (arith, valid.2)
+  some = omega (arith, valid.2);
 }
 
 kept_as_found : (c : LruCache ℕ Shared) (n : ℕ) (b : Option Shared) → lookup (nat_eq n) c.entries ≡ b → kept_as n (caching_of c) ≡ option_map said b

@@ -1,5 +1,5 @@
 -- A cache of decoded batches, and what an ask for a batch makes of it.
-use Rattle.std.specs.Prelude.{◌≡◌, ℕ, ◌≤◌, ◌∷◌, List, Option, None, Some, map, take, length, nat_eq, is_some, IfSome, cond}
+use Rattle.std.specs.Prelude.{◌≡◌, ℕ, ◌≤◌, ◌∷◌, List, Option, take, length, nat_eq, is_some, IfSome, cond}
 use Rattle.std.specs.List.{IsDistinct}
 use Rattle.std.specs.Map.{keys_of, lookup, remove_entry}
 use Rattle.event_batch.specs.Contents.{Content}
@@ -31,7 +31,7 @@ Agrees number content cache = IfSome (kept_as number cache) (λ kept. kept ≡ c
 abbrev pub after_ask : ℕ → Content → Caching → Caching
 after_ask number content cache = record {
   size = cache.size;
-  entries = take cache.size ((number, content) ∷ remove_entry (nat_eq number) cache.entries)
+  entries = take cache.size ((number, content) ∷ remove_entry (nat_eq number) cache.entries);
 }
 
 -- an ask decodes what isn't kept

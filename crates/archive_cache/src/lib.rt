@@ -5,5 +5,7 @@
 #![tactic(auto)]
 
 mod cache;
+#[cfg(test)]
+mod tests;
 
 pub use cache::Cache;

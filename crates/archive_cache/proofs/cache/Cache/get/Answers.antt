@@ -1,7 +1,7 @@
-use Rattle.std.proofs.Common.{◌≡◌, ℕ, ◌+◌, None, Some, sym, ap, ◌∙◌, subst}
+use Rattle.std.proofs.Common.{sym, ap, ◌∙◌, subst}
 use Rattle.std.specs.Option.{option_copied}
 use Rattle.event_batch.specs.Contents.{content_of}
-use Rattle.archive_cache.specs.Caches.{Caching, Agrees, after_ask, decodings}
+use Rattle.archive_cache.specs.Caches.{Agrees, after_ask}
 use Rattle.archive_cache.specs.Contents.{caching_of}
 use Rattle.archive_cache.proofs.AskLemmas.{found_agrees, found_counts, absent_counts, found_ask, absent_ask}
 use Rattle.archive_cache.proofs.cache.Cache.get.Goals as goal
