@@ -1,3 +1,4 @@
 pub mod EntryLemmas
 pub mod AskLemmas
 mod Vectors
+pub mod LatestLemmas

@@ -1,15 +1,19 @@
 -- Asks, computed by the prover. Each fact is false where its definition is wrong.
 use Rattle.std.proofs.Common.{◌≡◌, ℕ, ◌+◌, List, [], ◌∷◌, map, refl}
 use Rattle.event_batch.specs.Contents.{Content}
-use Rattle.archive_cache.specs.Caches.{Caching, after_ask, decodings}
+use Rattle.archive_cache.specs.Caches.{Kept, Caching, after_ask, decodings}
+use Rattle.archive_cache.specs.Laws.{after_asks, others, latest}
 
 -- the content of the batch with this number
 abbrev content : ℕ → Content
 content number = record { source = number; heading = record { path = []; fields = [] }; rows = [] }
 
+abbrev batches : List ℕ → List Kept
+batches numbers = map (λ n. (n, content n)) numbers
+
 -- a cache that holds the batches of these numbers, the one asked for last in front
 abbrev holds : ℕ → List ℕ → Caching
-holds size numbers = record { size = size; entries = map (λ n. (n, content n)) numbers }
+holds size numbers = record { size = size; entries = batches numbers }
 
 abbrev asked : ℕ → Caching → Caching
 asked number cache = after_ask number (content number) cache
@@ -45,17 +49,29 @@ kept_is_free = refl
 other_counts : decodings 2 (holds 2 (1 ∷ 0 ∷ [])) ≡ 1
 other_counts = refl
 
--- the batches 0, 1, 0, 2, 1 in a cache of two
-abbrev run : List ℕ → Caching
-run [] = holds 2 []
-run (n ∷ before) = asked n (run before)
+-- asks for the batches 0, 1, 0, 2 and 1, the latest in front
+abbrev asks : List ℕ
+asks = 1 ∷ 2 ∷ 0 ∷ 1 ∷ 0 ∷ []
 
-abbrev steps : List ℕ → ℕ
-steps [] = 0
-steps (n ∷ before) = steps before + decodings n (run before)
+abbrev steps : ℕ → List ℕ → ℕ
+steps size [] = 0
+steps size (n ∷ before) = steps size before + decodings n (after_asks size (batches before))
 
-row_holds : run (1 ∷ 2 ∷ 0 ∷ 1 ∷ 0 ∷ []) ≡ holds 2 (1 ∷ 2 ∷ [])
-row_holds = refl
+two_are_kept : after_asks 2 (batches asks) ≡ holds 2 (1 ∷ 2 ∷ [])
+two_are_kept = refl
 
-row_counts : steps (1 ∷ 2 ∷ 0 ∷ 1 ∷ 0 ∷ []) ≡ 4
-row_counts = refl
+four_steps : steps 2 asks ≡ 4
+four_steps = refl
+
+three_steps : steps 3 asks ≡ 3
+three_steps = refl
+
+other_asks : others 1 (batches asks) ≡ batches (2 ∷ 0 ∷ 0 ∷ [])
+other_asks = refl
+
+latest_asks : latest (batches asks) ≡ batches (1 ∷ 2 ∷ 0 ∷ [])
+latest_asks = refl
+
+-- the latest content counts
+content_of_the_latest_ask : latest ((0, content 1) ∷ (0, content 2) ∷ []) ≡ (0, content 1) ∷ []
+content_of_the_latest_ask = refl

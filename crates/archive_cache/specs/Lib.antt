@@ -1,2 +1,3 @@
 pub mod Caches
 pub mod Contents
+pub mod Laws

@@ -5,7 +5,9 @@
 #![tactic(auto)]
 
 mod cache;
+mod law;
 #[cfg(test)]
 mod tests;
 
 pub use cache::Cache;
+pub use law::keeps_the_latest;
