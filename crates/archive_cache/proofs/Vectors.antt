@@ -1,7 +1,8 @@
 -- Asks, computed by the prover. Each fact is false where its definition is wrong.
-use Rattle.std.proofs.Common.{◌≡◌, ℕ, ◌+◌, List, [], ◌∷◌, map, refl}
+use Rattle.std.proofs.Common.{◌≡◌, ℕ, ◌+◌, ◌≤◌, true, false, List, [], ◌∷◌, map, refl, ap, arith}
+use Rattle.std.specs.List.{IsDistinct}
 use Rattle.event_batch.specs.Contents.{Content}
-use Rattle.archive_cache.specs.Caches.{Kept, Caching, after_ask, decodings}
+use Rattle.archive_cache.specs.Caches.{Kept, Caching, IsCache, Agrees, after_ask, decodings}
 use Rattle.archive_cache.specs.Laws.{after_asks, others, latest}
 
 -- the content of the batch with this number
@@ -48,6 +49,31 @@ kept_is_free = refl
 
 other_counts : decodings 2 (holds 2 (1 ∷ 0 ∷ [])) ≡ 1
 other_counts = refl
+
+-- what is kept under a number agrees with its content alone, and anything where nothing is kept
+agrees_with_itself : Agrees 0 (content 0) (holds 2 (1 ∷ 0 ∷ []))
+agrees_with_itself = refl
+
+other_content_disagrees : ¬ Agrees 0 (content 1) (holds 2 (1 ∷ 0 ∷ []))
+other_content_disagrees e = let sources : 0 ≡ 1 = ap (λ (c : Content). c.source) e in omega (arith, sources)
+
+nothing_kept_agrees : Agrees 2 (content 0) (holds 2 (1 ∷ 0 ∷ []))
+nothing_kept_agrees = tt
+
+-- as many batches as the size, each once
+full_cache : IsCache (holds 2 (1 ∷ 0 ∷ []))
+unfolding IsDistinct
+full_cache = record { once = ((refl, tt), (tt, tt)); bounded = omega arith; some = omega arith }
+
+too_many : ¬ IsCache (holds 1 (1 ∷ 0 ∷ []))
+too_many c = let bounded : 2 ≤ 1 = c.bounded in omega (arith, bounded)
+
+no_size : ¬ IsCache (holds 0 [])
+no_size c = let some : 1 ≤ 0 = c.some in omega (arith, some)
+
+kept_twice : ¬ IsCache (holds 2 (1 ∷ 1 ∷ []))
+unfolding IsDistinct
+kept_twice c = let same : true ≡ false = c.once.0.0 in cc
 
 -- asks for the batches 0, 1, 0, 2 and 1, the latest in front
 abbrev asks : List ℕ
