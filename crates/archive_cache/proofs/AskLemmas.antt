@@ -27,20 +27,30 @@ is_cache c valid = record {
   some = omega (arith, valid.2);
 }
 
-kept_as_found : (c : LruCache ℕ Shared) (n : ℕ) (b : Option Shared) → lookup (nat_eq n) c.entries ≡ b → kept_as n (caching_of c) ≡ option_map said b
+kept_as_found : (c : LruCache ℕ Shared) (n : ℕ) (b : Option Shared) → lookup (nat_eq n) c.entries ≡ b
+    → kept_as n (caching_of c) ≡ option_map said b
 kept_as_found c n b e = lookup-map_values said (nat_eq n) c.entries ∙ ap (option_map said) e
 
 -- a batch that is kept counts nothing
-pub found_counts : (c : LruCache ℕ Shared) (n : ℕ) (b : Shared) → lookup (nat_eq n) c.entries ≡ Some b → (steps : ℕ) → steps ≡ steps + decodings n (caching_of c)
-found_counts c n b e steps = let none : decodings n (caching_of c) ≡ 0 = ap (λ o. cond (is_some o) 0 1) (kept_as_found c n (Some b) e) in omega (arith, none)
+pub found_counts : (c : LruCache ℕ Shared) (n : ℕ) (b : Shared) → lookup (nat_eq n) c.entries ≡ Some b
+    → (steps : ℕ) → steps ≡ steps + decodings n (caching_of c)
+found_counts c n b e steps =
+    let none : decodings n (caching_of c) ≡ 0 = ap (λ o. cond (is_some o) 0 1) (kept_as_found c n (Some b) e) in
+    omega (arith, none)
 
 -- another counts one step
-pub absent_counts : (c : LruCache ℕ Shared) (n : ℕ) → lookup (nat_eq n) c.entries ≡ None → (steps : ℕ) → steps + 1 ≡ steps + decodings n (caching_of c)
-absent_counts c n e steps = let one : decodings n (caching_of c) ≡ 1 = ap (λ o. cond (is_some o) 0 1) (kept_as_found c n None e) in omega (arith, one)
+pub absent_counts : (c : LruCache ℕ Shared) (n : ℕ) → lookup (nat_eq n) c.entries ≡ None → (steps : ℕ)
+    → steps + 1 ≡ steps + decodings n (caching_of c)
+absent_counts c n e steps =
+    let one : decodings n (caching_of c) ≡ 1 = ap (λ o. cond (is_some o) 0 1) (kept_as_found c n None e) in
+    omega (arith, one)
 
 -- what is kept is the batch's content
-pub found_agrees : (c : LruCache ℕ Shared) (n : ℕ) (x : Content) (b : Shared) → lookup (nat_eq n) c.entries ≡ Some b → Agrees n x (caching_of c) → said b ≡ x
-found_agrees c n x b e agrees = subst (λ (kept : Option Content). IfSome kept (λ k. k ≡ x)) (kept_as_found c n (Some b) e) agrees
+pub found_agrees : (c : LruCache ℕ Shared) (n : ℕ) (x : Content) (b : Shared)
+    → lookup (nat_eq n) c.entries ≡ Some b → Agrees n x (caching_of c) → said b ≡ x
+found_agrees c n x b e agrees =
+    let kept = kept_as_found c n (Some b) e in
+    subst (λ (o : Option Content). IfSome o (λ content. content ≡ x)) kept agrees
 
 take_whole : {X : Type 0} (n : ℕ) (xs : List X) → length xs ≤ n → take n xs ≡ xs
 take_whole zero [] h = refl
@@ -55,22 +65,39 @@ take_front (suc n) x xs h = let e : suc n - 1 ≡ n = omega arith in rw e refl
 abbrev cache_of : ℕ → List Kept → Caching
 cache_of size entries = record { size = size; entries = entries }
 
-pub found_ask : (c : LruCache ℕ Shared) (n : ℕ) (x : Content) (b : Shared) → lookup (nat_eq n) c.entries ≡ Some b → said b ≡ x → IsValid nat_eq c
-    → caching_of (lru_cache (promoted (nat_eq n) c.entries) c.cap) ≡ after_ask n x (caching_of c)
-found_ask c n x b e s valid =
-    let others : List (ℕ × Shared) = remove_entry (nat_eq n) c.entries in
-    let moved : promoted (nat_eq n) c.entries ≡ (n, b) ∷ others = ap (λ found. option_map_or (λ entry. entry ∷ others) found c.entries) (found_entry n c.entries b e) in
-    let told : map kept_of ((n, b) ∷ others) ≡ (n, x) ∷ remove_entry (nat_eq n) (map kept_of c.entries) = rw (s, remove_told said n c.entries) refl in
-    let short : length ((n, x) ∷ map kept_of others) ≤ c.cap = omega (arith, valid.1, length_told said others, found_removed n c.entries b e) in
-    let whole : take c.cap ((n, x) ∷ remove_entry (nat_eq n) (map kept_of c.entries)) ≡ (n, x) ∷ remove_entry (nat_eq n) (map kept_of c.entries) = rw (remove_told said n c.entries) (take_whole c.cap ((n, x) ∷ map kept_of others) short) in
-    ap (cache_of c.cap) (ap (map kept_of) moved ∙ told ∙ sym whole)
+module _ (c : LruCache ℕ Shared) (n : ℕ) (x : Content) (b : Shared) where
+  abbrev others : List (ℕ × Shared)
+  others = remove_entry (nat_eq n) c.entries
 
-pub absent_ask : (c : LruCache ℕ Shared) (n : ℕ) (x : Content) (b : Shared) → lookup (nat_eq n) c.entries ≡ None → said b ≡ x → IsValid nat_eq c
-    → caching_of (lru_cache (put_entries nat_eq c n b) c.cap) ≡ after_ask n x (caching_of c)
-absent_ask c n x b e s valid =
-    let others : List (ℕ × Shared) = remove_entry (nat_eq n) c.entries in
-    let put : put_entries nat_eq c n b ≡ (n, b) ∷ take (c.cap - 1) c.entries = ap (λ found. option_map_or (λ entry. (entry.0, b) ∷ others) found ((n, b) ∷ take (c.cap - 1) c.entries)) (absent_entry n c.entries e) in
-    let told : map kept_of ((n, b) ∷ take (c.cap - 1) c.entries) ≡ (n, x) ∷ take (c.cap - 1) (map kept_of c.entries) = rw (s, take-map kept_of (c.cap - 1) c.entries) refl in
-    let all : remove_entry (nat_eq n) (map kept_of c.entries) ≡ map kept_of c.entries = remove_told said n c.entries ∙ ap (map kept_of) (absent_removed n c.entries e) in
-    let front : take c.cap ((n, x) ∷ remove_entry (nat_eq n) (map kept_of c.entries)) ≡ (n, x) ∷ take (c.cap - 1) (map kept_of c.entries) = rw all (take_front c.cap (n, x) (map kept_of c.entries) valid.2) in
-    ap (cache_of c.cap) (ap (map kept_of) put ∙ told ∙ sym front)
+  -- the list that is cut to the size
+  abbrev asked : List Kept
+  asked = (n, x) ∷ remove_entry (nat_eq n) (map kept_of c.entries)
+
+  pub found_ask : lookup (nat_eq n) c.entries ≡ Some b → said b ≡ x → IsValid nat_eq c
+      → caching_of (lru_cache (promoted (nat_eq n) c.entries) c.cap) ≡ after_ask n x (caching_of c)
+  found_ask e s valid =
+      let found = found_entry n c.entries b e in
+      let moved = ap (λ o. option_map_or (λ entry. entry ∷ others) o c.entries) found in
+      let told : map kept_of ((n, b) ∷ others) ≡ asked = rw (s, remove_told said n c.entries) refl in
+      let removed = found_removed n c.entries b e in
+      let short : length ((n, x) ∷ map kept_of others) ≤ c.cap =
+      omega (arith, valid.1, length_told said others, removed) in
+      let whole : take c.cap asked ≡ asked =
+      rw (remove_told said n c.entries) (take_whole c.cap ((n, x) ∷ map kept_of others) short) in
+      ap (cache_of c.cap) (ap (map kept_of) moved ∙ told ∙ sym whole)
+
+  -- the entries that stay behind one that is new
+  abbrev kept_on : List (ℕ × Shared)
+  kept_on = take (c.cap - 1) c.entries
+
+  pub absent_ask : lookup (nat_eq n) c.entries ≡ None → said b ≡ x → IsValid nat_eq c
+      → caching_of (lru_cache (put_entries nat_eq c n b) c.cap) ≡ after_ask n x (caching_of c)
+  absent_ask e s valid =
+      let absent = absent_entry n c.entries e in
+      let put = ap (λ o. option_map_or (λ entry. (entry.0, b) ∷ others) o ((n, b) ∷ kept_on)) absent in
+      let told : map kept_of ((n, b) ∷ kept_on) ≡ (n, x) ∷ take (c.cap - 1) (map kept_of c.entries) =
+      rw (s, take-map kept_of (c.cap - 1) c.entries) refl in
+      let all = remove_told said n c.entries ∙ ap (map kept_of) (absent_removed n c.entries e) in
+      let front : take c.cap asked ≡ (n, x) ∷ take (c.cap - 1) (map kept_of c.entries) =
+      rw all (take_front c.cap (n, x) (map kept_of c.entries) valid.2) in
+      ap (cache_of c.cap) (ap (map kept_of) put ∙ told ∙ sym front)
