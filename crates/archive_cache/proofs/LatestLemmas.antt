@@ -35,18 +35,18 @@ IsOnce (x ∷ xs) = (others x.0 xs ≡ xs) × IsOnce xs
 
 once_others : (n : ℕ) (xs : List Kept) → IsOnce xs → IsOnce (others n xs)
 once_others n [] h = tt
-once_others n (x ∷ xs) h = elim (nat_eq n x.0) as (λ b. IsOnce (cond (not b) (x ∷ others n xs) (others n xs))) [
-  | true ↦ once_others n xs h.1
-  | false ↦ (
-    filters_commute (λ y. not (nat_eq x.0 y.0)) (λ y. not (nat_eq n y.0)) xs
-        ∙ ap (others n) h.0,
-    once_others n xs h.1,
-  )
-]
+once_others n (x ∷ xs) h =
+    let commute = filters_commute (λ y. not (nat_eq x.0 y.0)) (λ y. not (nat_eq n y.0)) xs in
+    elim (nat_eq n x.0) as (λ b. IsOnce (cond (not b) (x ∷ others n xs) (others n xs))) [
+      | true ↦ once_others n xs h.1
+      | false ↦ (commute ∙ ap (others n) h.0, once_others n xs h.1)
+    ]
 
 once_latest : (asks : List Kept) → IsOnce (latest asks)
 once_latest [] = tt
-once_latest (ask ∷ before) = (filter_again (λ x. not (nat_eq ask.0 x.0)) (latest before), once_others ask.0 (latest before) (once_latest before))
+once_latest (ask ∷ before) =
+    let again = filter_again (λ x. not (nat_eq ask.0 x.0)) (latest before) in
+    (again, once_others ask.0 (latest before) (once_latest before))
 
 removed_is_others : (n : ℕ) (xs : List Kept) → IsOnce xs → remove_entry (nat_eq n) xs ≡ others n xs
 removed_is_others n [] h = refl
