@@ -1,0 +1,6 @@
+pub mod Asking
+pub mod Building
+pub mod Columns
+pub mod Indexes
+pub mod Merged
+pub mod Parts
