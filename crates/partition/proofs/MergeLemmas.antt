@@ -12,7 +12,7 @@ use Rattle.vast_value.specs.Headings.{Field}
 use Rattle.query_meaning.specs.Meaning.{is_of}
 use Rattle.column_index.specs.Stands.{Stands}
 use Rattle.event_history.specs.Events.{Event, events_in, events_of}
-use Rattle.event_history.specs.Pieces.{Piece, piece_events}
+use Rattle.event_history.specs.Pieces.{AreAdjacent, Follow, Piece, piece_events}
 use Rattle.partition.specs.declared.index.PlacedColumn.{PlacedColumn}
 use Rattle.partition.specs.declared.index.Span.{Span}
 use Rattle.partition.specs.Columns.{Place, cell_among, cell_in, column_cells, is_covered, place_of, same_kind, same_place, time_among, time_place}
@@ -271,3 +271,28 @@ pub added_spans : (places old : List Place) (spans before after : List Span) (es
 added_spans places old spans before after es more a covered are front =
     subst (λ (ss : List Span). AreSpans places ss (es ++ more)) (sym a.1)
     (spans_behind places before a.0 es more front (spans_retold places old spans a.0 more covered a.2 are))
+
+-- one piece more that follows the others
+pub follow_more : (batch first : ℕ) (ps : List Piece) (p : Piece) → Follow batch first ps → p.batch ≡ batch + length (flat_map (λ q. q.contents) ps) → p.first ≡ first + length (all_events ps)
+    → Follow batch first (ps ++ p ∷ [])
+follow_more batch first [] p f b e = (omega (arith, b), omega (arith, e), tt)
+follow_more batch first (q ∷ qs) p f b e = (
+  f.0,
+  f.1,
+  follow_more (batch + length q.contents) (first + length (piece_events q)) qs p f.2
+      (omega (arith, b, length-append q.contents (flat_map (λ r. r.contents) qs)))
+      (omega (arith, e, length-append (piece_events q) (all_events qs))),
+)
+
+pub follow_adjacent : (ps : List Piece) → Follow 0 0 ps → AreAdjacent ps
+follow_adjacent [] f = tt
+follow_adjacent (q ∷ qs) f =
+    subst (λ (n : ℕ). Follow n (q.first + length (piece_events q)) qs) (ap (λ (n : ℕ). n + length q.contents) (sym f.0))
+    (subst (λ (n : ℕ). Follow (0 + length q.contents) n qs) (ap (λ (n : ℕ). n + length (piece_events q)) (sym f.1)) f.2)
+
+pub pushed_flat : {Y : Type 0} (h : Piece → List Y) (ps : List Piece) (p : Piece) → length (flat_map h (ps ++ p ∷ [])) ≡ length (flat_map h ps) + length (h p)
+pushed_flat h ps p =
+    ap (λ (ys : List _). length ys) (flat_map-append h ps (p ∷ []) ∙ ap (λ (ys : List _). flat_map h ps ++ ys) (append-nil (h p))) ∙ length-append (flat_map h ps) (h p)
+
+pub pushed_map : {X : Type 0} (g : X → Piece) (xs : List X) (x : X) (new : List X) → new ≡ xs ++ x ∷ [] → map g new ≡ map g xs ++ g x ∷ []
+pushed_map g xs x new is = ap (λ (ys : List _). map g ys) is ∙ map-append g xs (x ∷ [])

@@ -1,5 +1,7 @@
 //! Worked answers of parts.
-ghost use Rattle.std.specs.Prelude.{◌≤◌, ◌^◌, length};
+ghost use Rattle.std.specs.Prelude.{◌≤◌, ◌^◌, length, map, IfOk};
+ghost use Rattle.std.specs.Arc.{arc_value};
+ghost use Rattle.event_history.specs.Pieces.{AreAdjacent};
 
 use crate::{Fragment, Part, Sealed};
 use bits_law::Bits;
@@ -20,7 +22,13 @@ fn column(alloc: Global, name: &[u8], elem: Elem) -> Result<Column, AllocError>
     Ok(Column { name, kind })
 }
 
-fn batch(alloc: Global, source: u32, path: &[u8], columns: Columns, rows: Rows) -> Result<Batch, Fail>
+fn batch(
+    alloc: Global,
+    source: u32,
+    path: &[u8],
+    columns: Columns,
+    rows: Rows,
+) -> Result<Batch, Fail>
     requires { length path.now ≤ 2 ^ 24 }
 {
     let Ok(layout) = Layout::new(Bytes::copy(alloc, path)?, columns) else {
@@ -67,11 +75,51 @@ fn times(alloc: Global) -> Result<Batch, Fail> {
     batch(alloc, 2, b"t", columns, rows)
 }
 
-/// Both batches, merged.
-fn merged(alloc: Global) -> Result<Part, Fail> {
-    let names = Fragment::build(alloc, 0, 0, &names(alloc)?)?;
-    let times = Fragment::build(alloc, 1, names.rows(), &times(alloc)?)?;
-    let fragments = [Arc::new(alloc, names)?, Arc::new(alloc, times)?];
+/// A row of one cell in a column `v` of the path `p`.
+fn single(alloc: Global, elem: Elem, value: Value) -> Result<Batch, Fail> {
+    let mut columns = Columns::new(alloc);
+    columns.push(column(alloc, b"v", elem)?)?;
+    let mut row = Row::new(alloc);
+    row.push(Cell::One(value))?;
+    let mut rows = Rows::new(alloc);
+    rows.push(row)?;
+    batch(alloc, 3, b"p", columns, rows)
+}
+
+/// The batches of the tests, by letters: names `d`, times `t`, and a count `c`, a text `x` and a time `m` of one path.
+fn batch_of(alloc: Global, letter: u8) -> Result<Batch, Fail> {
+    match letter {
+        b'd' => names(alloc),
+        b't' => times(alloc),
+        b'c' => single(alloc, Elem::Count, Value::Count(3)),
+        b'x' => single(alloc, Elem::Text, Value::Text(Bytes::copy(alloc, b"x")?)),
+        _ => single(alloc, Elem::Time, Value::Time(10_500_000_000)),
+    }
+}
+
+/// Fragments of these batches, one behind the other.
+fn fragments(alloc: Global, letters: &[u8]) -> Result<Vec<Arc<Fragment>>, Fail>
+    ensures { IfOk result (λ all. AreAdjacent (map arc_value all.items)) }
+{
+    let mut all = Vec::new(alloc);
+    let mut first: u64 = 0;
+    for at in 0..letters.len() {
+        let fragment = Fragment::build(alloc, at as u64, first, &batch_of(alloc, letters[at])?)?;
+        let Some(next) = first.checked_add(fragment.rows()) else {
+            return Err("too many".into());
+        };
+        first = next;
+        all.push(Arc::new(alloc, fragment)?)?;
+    }
+    Ok(all)
+}
+
+/// These batches, merged.
+fn merged(alloc: Global, letters: &[u8]) -> Result<Part, Fail> {
+    let fragments = fragments(alloc, letters)?;
+    if fragments.is_empty() || fragments.len() > 256 {
+        return Err("no group".into());
+    }
     let sealed = Sealed::merge(alloc, &fragments)?;
     Ok(Part::Many(Arc::new(alloc, sealed)?))
 }
@@ -126,7 +174,11 @@ fn merged_batches_answer_each_row_by_its_own_layout(rt: HostRuntime) -> Result<(
             "00000",
             "00111",
         ),
-        (of(name(alloc, b"d.n")?, Rel::Gt, Value::Count(3)), "01000", "01000"),
+        (
+            of(name(alloc, b"d.n")?, Rel::Gt, Value::Count(3)),
+            "01000",
+            "01000",
+        ),
         (of(Pick::OfKind(Elem::Text), Rel::Eq, ann), "10000", "10000"),
         (of(Pick::TypeName, Rel::Eq, path), "00111", "00111"),
         (
@@ -144,7 +196,7 @@ fn merged_batches_answer_each_row_by_its_own_layout(rt: HostRuntime) -> Result<(
             "11000",
         ),
     ];
-    says(&rt, &merged(alloc)?, &asks)?;
+    says(&rt, &merged(alloc, b"dt")?, &asks)?;
     Ok(())
 }
 
@@ -153,7 +205,12 @@ fn a_part_of_one_batch_tells_that_batch(rt: HostRuntime) -> Result<(), Fail> {
     let alloc = rt.alloc();
     let fragment = Fragment::build(alloc, 7, 20, &times(alloc)?)?;
     let part = Part::One(Arc::new(alloc, fragment)?).share()?;
-    let told = (part.first_batch(), part.batches(), part.first(), part.rows());
+    let told = (
+        part.first_batch(),
+        part.batches(),
+        part.first(),
+        part.rows(),
+    );
     assert_eq!(&rt; told, (7, 1, 20, 3));
     let asks = [(
         of(name(alloc, b"ts")?, Rel::Ge, Value::Time(10_500_000_000)),
@@ -161,5 +218,50 @@ fn a_part_of_one_batch_tells_that_batch(rt: HostRuntime) -> Result<(), Fail> {
         "111",
     )];
     says(&rt, &part, &asks)?;
+    Ok(())
+}
+
+#[test]
+fn a_column_that_a_fragment_lacks_is_a_gap_there(rt: HostRuntime) -> Result<(), Fail> {
+    let merges = [
+        (b"c".as_slice(), "1", "0"),
+        (b"cmm", "100", "000"),
+        (b"mcm", "010", "000"),
+        (b"mmc", "001", "000"),
+        (b"cxm", "100", "010"),
+        (b"xdcx", "00010", "10001"),
+    ];
+    for (letters, counts, texts) in merges {
+        let alloc = rt.alloc();
+        let asks = [
+            (
+                of(name(alloc, b"v")?, Rel::Gt, Value::Count(2)),
+                counts,
+                counts,
+            ),
+            (
+                of(
+                    name(alloc, b"v")?,
+                    Rel::Eq,
+                    Value::Text(Bytes::copy(alloc, b"x")?),
+                ),
+                texts,
+                texts,
+            ),
+        ];
+        says(&rt, &merged(alloc, letters)?, &asks)?;
+    }
+    Ok(())
+}
+
+#[test]
+fn as_many_fragments_as_a_group_can_have_are_merged(rt: HostRuntime) -> Result<(), Fail> {
+    let part = merged(rt.alloc(), &[b'm'; 256])?;
+    let test = of(Pick::EventTime, Rel::Lt, Value::Time(11_000_000_000));
+    let pair = part.ask(rt.alloc(), &test)?;
+    assert_eq!(&rt;
+        (part.batches(), part.rows(), pair.sure.count()),
+        (256, 256, 256)
+    );
     Ok(())
 }

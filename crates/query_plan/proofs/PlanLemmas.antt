@@ -69,10 +69,10 @@ all_more f members i m events all more new h found a one is =
     is ∙ ap (λ (bs : List Bool). bitwise ◌&&◌ bs more) a ∙ ap (λ (bs : List Bool). bitwise ◌&&◌ (map (λ e. list_all f (map (known e.heading e.row) (take i members))) events) bs) one
     ∙ bitwise_map ◌&&◌ (λ e. list_all f (map (known e.heading e.row) (take i members))) (λ e. f (known e.heading e.row m)) events
     ∙ map_same (λ e. list_all f (map (known e.heading e.row) (take i members)) && f (known e.heading e.row m)) (λ e. list_all f (map (known e.heading e.row) (take (i + 1) members))) events
-      (λ e. sym (ap (λ (ms : List Expr). list_all f (map (known e.heading e.row) ms)) (take_next members i m h found)
-        ∙ ap (λ (ks : List Known). list_all f ks) (map-append (known e.heading e.row) (take i members) (m ∷ []))
-        ∙ list_all-append f (map (known e.heading e.row) (take i members)) (known e.heading e.row m ∷ [])
-        ∙ ap (λ (b : Bool). list_all f (map (known e.heading e.row) (take i members)) && b) (and_true (f (known e.heading e.row m)))))
+    (λ e. sym (ap (λ (ms : List Expr). list_all f (map (known e.heading e.row) ms)) (take_next members i m h found)
+    ∙ ap (λ (ks : List Known). list_all f ks) (map-append (known e.heading e.row) (take i members) (m ∷ []))
+    ∙ list_all-append f (map (known e.heading e.row) (take i members)) (known e.heading e.row m ∷ [])
+    ∙ ap (λ (b : Bool). list_all f (map (known e.heading e.row) (take i members)) && b) (and_true (f (known e.heading e.row m)))))
 
 pub any_more : (f : Known → Bool) (members : List Expr) (i : ℕ) (m : Expr) (events : List Event) (all more new : List Bool) → i < length members → m ≡ slice_index_or members i m
     → AreAny f (take i members) events all → AreOne f m events more → new ≡ bitwise ◌||◌ all more → AreAny f (take (i + 1) members) events new
@@ -80,10 +80,10 @@ any_more f members i m events all more new h found a one is =
     is ∙ ap (λ (bs : List Bool). bitwise ◌||◌ bs more) a ∙ ap (λ (bs : List Bool). bitwise ◌||◌ (map (λ e. list_any f (map (known e.heading e.row) (take i members))) events) bs) one
     ∙ bitwise_map ◌||◌ (λ e. list_any f (map (known e.heading e.row) (take i members))) (λ e. f (known e.heading e.row m)) events
     ∙ map_same (λ e. list_any f (map (known e.heading e.row) (take i members)) || f (known e.heading e.row m)) (λ e. list_any f (map (known e.heading e.row) (take (i + 1) members))) events
-      (λ e. sym (ap (λ (ms : List Expr). list_any f (map (known e.heading e.row) ms)) (take_next members i m h found)
-        ∙ ap (λ (ks : List Known). list_any f ks) (map-append (known e.heading e.row) (take i members) (m ∷ []))
-        ∙ list_any-append f (map (known e.heading e.row) (take i members)) (known e.heading e.row m ∷ [])
-        ∙ ap (λ (b : Bool). list_any f (map (known e.heading e.row) (take i members)) || b) (or_false (f (known e.heading e.row m)))))
+    (λ e. sym (ap (λ (ms : List Expr). list_any f (map (known e.heading e.row) ms)) (take_next members i m h found)
+    ∙ ap (λ (ks : List Known). list_any f ks) (map-append (known e.heading e.row) (take i members) (m ∷ []))
+    ∙ list_any-append f (map (known e.heading e.row) (take i members)) (known e.heading e.row m ∷ [])
+    ∙ ap (λ (b : Bool). list_any f (map (known e.heading e.row) (take i members)) || b) (or_false (f (known e.heading e.row m)))))
 
 pub even : {X : Type 0} (g h : X → Bool) (a b : List Bool) (xs : List X) → a ≡ map g xs → b ≡ map h xs → length a ≡ length b
 even g h a b xs e f =
@@ -103,33 +103,33 @@ pub none_sure : (x m : Expr) (events : List Event) (bits : List Bool) → x ≡ 
 none_sure x m events bits is e =
     e ∙ map_not (λ v. (known v.heading v.row m).maybe) (maybe_bits m events) events refl
     ∙ map_same (λ v. not (known v.heading v.row m).maybe) (λ v. (known v.heading v.row x).sure) events
-      (λ v. sym (ap (λ (y : Expr). (known v.heading v.row y).sure) is ∙ ap (λ (k : Known). k.sure) (known_not m v)))
+    (λ v. sym (ap (λ (y : Expr). (known v.heading v.row y).sure) is ∙ ap (λ (k : Known). k.sure) (known_not m v)))
 
 pub none_maybe : (x m : Expr) (events : List Event) (bits : List Bool) → x ≡ Not m → bits ≡ map not (sure_bits m events) → bits ≡ maybe_bits x events
 none_maybe x m events bits is e =
     e ∙ map_not (λ v. (known v.heading v.row m).sure) (sure_bits m events) events refl
     ∙ map_same (λ v. not (known v.heading v.row m).sure) (λ v. (known v.heading v.row x).maybe) events
-      (λ v. sym (ap (λ (y : Expr). (known v.heading v.row y).maybe) is ∙ ap (λ (k : Known). k.maybe) (known_not m v)))
+    (λ v. sym (ap (λ (y : Expr). (known v.heading v.row y).maybe) is ∙ ap (λ (k : Known). k.maybe) (known_not m v)))
 
 pub all_sure : (x : Expr) (ms : List Expr) (events : List Event) (bits : List Bool) → x ≡ And ms → AreAll (λ k. k.sure) ms events bits → bits ≡ sure_bits x events
 all_sure x ms events bits is e =
     e ∙ map_same (λ v. list_all (λ k. k.sure) (map (known v.heading v.row) ms)) (λ v. (known v.heading v.row x).sure) events
-      (λ v. sym (ap (λ (y : Expr). (known v.heading v.row y).sure) is ∙ ap (λ (k : Known). k.sure) (known_and ms v)))
+    (λ v. sym (ap (λ (y : Expr). (known v.heading v.row y).sure) is ∙ ap (λ (k : Known). k.sure) (known_and ms v)))
 
 pub all_maybe : (x : Expr) (ms : List Expr) (events : List Event) (bits : List Bool) → x ≡ And ms → AreAll (λ k. k.maybe) ms events bits → bits ≡ maybe_bits x events
 all_maybe x ms events bits is e =
     e ∙ map_same (λ v. list_all (λ k. k.maybe) (map (known v.heading v.row) ms)) (λ v. (known v.heading v.row x).maybe) events
-      (λ v. sym (ap (λ (y : Expr). (known v.heading v.row y).maybe) is ∙ ap (λ (k : Known). k.maybe) (known_and ms v)))
+    (λ v. sym (ap (λ (y : Expr). (known v.heading v.row y).maybe) is ∙ ap (λ (k : Known). k.maybe) (known_and ms v)))
 
 pub any_sure : (x : Expr) (ms : List Expr) (events : List Event) (bits : List Bool) → x ≡ Or ms → AreAny (λ k. k.sure) ms events bits → bits ≡ sure_bits x events
 any_sure x ms events bits is e =
     e ∙ map_same (λ v. list_any (λ k. k.sure) (map (known v.heading v.row) ms)) (λ v. (known v.heading v.row x).sure) events
-      (λ v. sym (ap (λ (y : Expr). (known v.heading v.row y).sure) is ∙ ap (λ (k : Known). k.sure) (known_or ms v)))
+    (λ v. sym (ap (λ (y : Expr). (known v.heading v.row y).sure) is ∙ ap (λ (k : Known). k.sure) (known_or ms v)))
 
 pub any_maybe : (x : Expr) (ms : List Expr) (events : List Event) (bits : List Bool) → x ≡ Or ms → AreAny (λ k. k.maybe) ms events bits → bits ≡ maybe_bits x events
 any_maybe x ms events bits is e =
     e ∙ map_same (λ v. list_any (λ k. k.maybe) (map (known v.heading v.row) ms)) (λ v. (known v.heading v.row x).maybe) events
-      (λ v. sym (ap (λ (y : Expr). (known v.heading v.row y).maybe) is ∙ ap (λ (k : Known). k.maybe) (known_or ms v)))
+    (λ v. sym (ap (λ (y : Expr). (known v.heading v.row y).maybe) is ∙ ap (λ (k : Known). k.maybe) (known_or ms v)))
 
 pub all_taken : (f : Known → Bool) (ms : List Expr) (n : ℕ) (events : List Event) (bits : List Bool) → length ms ≤ n → AreAll f (take n ms) events bits → AreAll f ms events bits
 all_taken f ms n events bits h a = a ∙ ap (λ (xs : List Expr). map (λ e. list_all f (map (known e.heading e.row) xs)) events) (take_all n ms h)

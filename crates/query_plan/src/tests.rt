@@ -74,7 +74,11 @@ fn shown(alloc: Global, bits: &Bitmap) -> Result<String, AllocError> {
 }
 
 /// What is sure and what may be, of a query's text.
-fn says<R: Abort + AllocGlobal>(rt: &R, part: &Part, asks: &[(&str, &str, &str)]) -> Result<(), Fail> {
+fn says<R: Abort + AllocGlobal>(
+    rt: &R,
+    part: &Part,
+    asks: &[(&str, &str, &str)],
+) -> Result<(), Fail> {
     for (text, sure, maybe) in asks {
         let Ok(expr) = parse(rt.alloc(), text) else {
             return Err("no query".into());

@@ -1,9 +1,8 @@
-use Rattle.std.proofs.Common.{◌≡◌, ◌<◌, ◌≤◌, ◌∙◌, Bool, List, true, false, length, map, not, replicate, take, ap, sym, arith, slice_index_or, refl}
+use Rattle.std.proofs.Common.{◌∙◌, Bool, List, true, false, map, not, ap, sym, arith}
 use Rattle.event_history.specs.Pieces.{piece_events}
 use Rattle.partition.specs.Parts.{piece_of}
 use Rattle.query_meaning.specs.declared.expr.Expr.{Expr}
 use Rattle.query_meaning.specs.declared.expr.Expr.TheVariants.{And, Not, Or}
-use Rattle.query_plan.specs.Candidates.{maybe_bits, sure_bits}
 use Rattle.query_plan.proofs.PlanLemmas.{all_maybe, all_more, all_sure, all_taken, any_maybe, any_more, any_sure, any_taken, constant, none_maybe, none_sure}
 use Rattle.query_plan.proofs.plan.+candidates.Goals as goal
 
@@ -23,9 +22,9 @@ loop-member-preserved t c =
     let m = c.member-item.result in
     record {
       sure = all_more (λ k. k.sure) members i m events c.loop-member.all.sure c.in_ok-more-in-And.more.sure c.in_ok-all-in-And-2.all.sure c.loop-member-test.true c.member-item.is
-        c.loop-member.invariant.sure c.in_ok-more-in-And.ensures.sure c.in_ok-all-in-And-2.ensures.sure;
+          c.loop-member.invariant.sure c.in_ok-more-in-And.ensures.sure c.in_ok-all-in-And-2.ensures.sure;
       maybe = all_more (λ k. k.maybe) members i m events c.loop-member.all.maybe c.in_ok-more-in-And.more.maybe c.in_ok-all-in-And-2.all.maybe c.loop-member-test.true c.member-item.is
-        c.loop-member.invariant.maybe c.in_ok-more-in-And.ensures.maybe c.in_ok-all-in-And-2.ensures.maybe;
+          c.loop-member.invariant.maybe c.in_ok-more-in-And.ensures.maybe c.in_ok-all-in-And-2.ensures.maybe;
     }
 
 pub loop-member-2-init : goal.loop-member-2-init
@@ -44,9 +43,9 @@ loop-member-2-preserved t c =
     let m = c.member-item-in-loop-member-2.result in
     record {
       sure = any_more (λ k. k.sure) members i m events c.loop-member-2.all.sure c.in_ok-more-in-Or.more.sure c.in_ok-all-in-Or-2.all.sure c.loop-member-2-test.true c.member-item-in-loop-member-2.is
-        c.loop-member-2.invariant.sure c.in_ok-more-in-Or.ensures.sure c.in_ok-all-in-Or-2.ensures.sure;
+          c.loop-member-2.invariant.sure c.in_ok-more-in-Or.ensures.sure c.in_ok-all-in-Or-2.ensures.sure;
       maybe = any_more (λ k. k.maybe) members i m events c.loop-member-2.all.maybe c.in_ok-more-in-Or.more.maybe c.in_ok-all-in-Or-2.all.maybe c.loop-member-2-test.true c.member-item-in-loop-member-2.is
-        c.loop-member-2.invariant.maybe c.in_ok-more-in-Or.ensures.maybe c.in_ok-all-in-Or-2.ensures.maybe;
+          c.loop-member-2.invariant.maybe c.in_ok-more-in-Or.ensures.maybe c.in_ok-all-in-Or-2.ensures.maybe;
     }
 
 pub returns-in_ok-others-in-Not-clause-sure : goal.returns-in_ok-others-in-Not-clause-sure
