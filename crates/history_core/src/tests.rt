@@ -1,9 +1,9 @@
 //! Written interleavings.
-ghost use Rattle.std.specs.Prelude.{◌≡◌, ◌<◌};
+ghost use Rattle.std.specs.Prelude.{◌≡◌, ◌<◌, ◌≤◌, ◌^◌, length};
 
 use super::*;
 use event_batch::{Packed, Steps, unpack};
-use partition::Fragment;
+use partition::{Fragment, Part, Sealed};
 use query_meaning::Expr;
 use sqlite_items::Items;
 use std::alloc::Global;
@@ -18,15 +18,23 @@ const ONE_EVENT: [u8; 26] = [
     2, 1, 0, 0, 0, 1, 0, 0, 0, b'd', 1, 0, 9, 1, 0, 0, 0, b'p', 1, 0, 0, 0, 1, 53, 0, 0,
 ];
 
+// A batch of three events.
+const THREE_EVENTS: [u8; 34] = [
+    2, 1, 0, 0, 0, 1, 0, 0, 0, b'd', 1, 0, 9, 1, 0, 0, 0, b'p', 3, 0, 0, 0, 1, 53, 0, 0, 1, 53, 0,
+    0, 1, 53, 0, 0,
+];
+
 const LIMITS: Limits = Limits {
-    rows: 2,
-    queries: 4,
+    rows: 3,
+    queries: 8,
     group: 2,
-    inbox: 1,
+    inbox: 2,
 };
 
-fn accept_one(alloc: Global, store: &mut Store) -> Result<(), Fail> {
-    let Ok(packed) = Packed::read(alloc, Bytes::copy(alloc, &ONE_EVENT)?) else {
+fn accept(alloc: Global, store: &mut Store, bytes: &[u8]) -> Result<(), Fail>
+    requires { length bytes.now ≤ 2 ^ 24 }
+{
+    let Ok(packed) = Packed::read(alloc, Bytes::copy(alloc, bytes)?) else {
         return Err("not read".into());
     };
     match store.accept(0, packed) {
@@ -57,13 +65,38 @@ fn index_next<L: Ledger>(alloc: Global, store: &mut Store, blank: Blank) -> Resu
     }
 }
 
+fn register(alloc: Global, store: &mut Store, mode: Mode) -> Result<Session, Fail> {
+    match store.register(0, mode, Expr::And(Items::new(alloc))) {
+        Ok(session) => Ok(session),
+        Err(_) => Err("not registered".into()),
+    }
+}
+
+/// A take of a query that registered before other calls: one more query registers first, and has no lesser number.
+fn take_again(alloc: Global, store: &mut Store, session: Session) -> Result<Taken, Fail> {
+    let Ok(newest) = store.register(0, Mode::Coming, Expr::And(Items::new(alloc))) else {
+        return Err("not registered".into());
+    };
+    if session.query == 0 || session.query > newest.query {
+        return Err("not of this store".into());
+    }
+    match store.take(0, session) {
+        Ok(taken) => Ok(taken),
+        Err(_) => Err("not taken".into()),
+    }
+}
+
+fn index_one(alloc: Global, store: &mut Store) -> Result<(), Fail> {
+    index_next::<Brand>(alloc, store, Blank::new(1))
+}
+
 #[test]
 fn each_mode_stops_at_the_batch_without_an_index(rt: HostRuntime) -> Result<(), Fail> {
     let alloc = rt.alloc();
     let mut store = Store::new(alloc, LIMITS);
-    accept_one(alloc, &mut store)?;
-    accept_one(alloc, &mut store)?;
-    index_next::<Brand>(alloc, &mut store, Blank::new(1))?;
+    accept(alloc, &mut store, &ONE_EVENT)?;
+    accept(alloc, &mut store, &ONE_EVENT)?;
+    index_one(alloc, &mut store)?;
     let pages = [
         (Mode::Past, (0, 1), (2, 2), Some(1)),
         (Mode::Coming, (2, 2), (2, 2), None),
@@ -82,5 +115,160 @@ fn each_mode_stops_at_the_batch_without_an_index(rt: HostRuntime) -> Result<(), 
             (past, live, again)
         );
     }
+    Ok(())
+}
+
+#[test]
+fn a_claim_given_back_is_handed_out_again(rt: HostRuntime) -> Result<(), Fail> {
+    let alloc = rt.alloc();
+    let mut store = Store::new(alloc, LIMITS);
+    accept(alloc, &mut store, &ONE_EVENT)?;
+    accept(alloc, &mut store, &ONE_EVENT)?;
+    let Some(claim) = store.claim(0)? else {
+        return Err("nothing to claim".into());
+    };
+    let given_back = claim.batch;
+    if store.unclaim(0, claim).is_err() {
+        return Err("not given back".into());
+    }
+    let Some(again) = store.claim(0)? else {
+        return Err("nothing to claim again".into());
+    };
+    let Some(next) = store.claim(0)? else {
+        return Err("nothing to claim next".into());
+    };
+    assert_eq!(rt; (given_back, again.batch, next.batch), (0, 0, 1));
+    Ok(())
+}
+
+#[test]
+fn a_query_that_left_is_told_so_and_another_goes_on(rt: HostRuntime) -> Result<(), Fail> {
+    let alloc = rt.alloc();
+    let mut store = Store::new(alloc, LIMITS);
+    let stays = register(alloc, &mut store, Mode::Coming)?;
+    accept(alloc, &mut store, &ONE_EVENT)?;
+    let Ok(leaves) = store.register(0, Mode::Coming, Expr::And(Items::new(alloc))) else {
+        return Err("not registered".into());
+    };
+    let query = leaves.query;
+    assert_eq!(rt; store.leave(0, query), Ok(()));
+    assert_eq!(rt; store.leave(0, query), Err(LeaveEnd::Left { query: 2 }));
+    let Err((_, end)) = store.take(0, leaves) else {
+        return Err("taken".into());
+    };
+    assert_eq!(rt; end, TakeEnd::Left { query: 2 });
+    let taken = take_again(alloc, &mut store, stays)?;
+    assert_eq!(rt; (taken.query(), taken.live()), (1, (0, 1)));
+    Ok(())
+}
+
+#[test]
+fn a_take_goes_on_where_the_last_one_stopped(rt: HostRuntime) -> Result<(), Fail> {
+    let alloc = rt.alloc();
+    let rows = [
+        (Mode::Both, (0, 0), (3, 3), (0, 3)),
+        (Mode::Since { from: 1 }, (1, 1), (3, 3), (1, 3)),
+    ];
+    for (mode, stopped, live, rest) in rows {
+        let mut store = Store::new(alloc, LIMITS);
+        accept(alloc, &mut store, &THREE_EVENTS)?;
+        let session = register(alloc, &mut store, mode)?;
+        let taken = take_again(alloc, &mut store, session)?;
+        assert_eq!(rt;
+            (taken.past(), taken.live(), taken.again()),
+            (stopped, live, Some(0))
+        );
+        index_one(alloc, &mut store)?;
+        let taken = take_again(alloc, &mut store, taken.settle())?;
+        assert_eq!(rt;
+            (taken.past(), taken.live(), taken.again()),
+            (rest, live, None)
+        );
+    }
+    Ok(())
+}
+
+fn seal_two(alloc: Global, store: &mut Store) -> Result<(), Fail> {
+    let Some(group) = store.claim_group()? else {
+        return Err("no group".into());
+    };
+    let [first, second] = group.fragments.as_slice() else {
+        return Err("not two".into());
+    };
+    let before = Part::One(first.clone()?);
+    if before.first_batch().checked_add(before.batches()) != Some(second.no())
+        || before.first().checked_add(before.rows()) != Some(second.first())
+    {
+        return Err("not adjacent".into());
+    }
+    let sealed = Arc::new(alloc, Sealed::merge(alloc, group.fragments.as_slice())?)?;
+    match store.publish_group(0, group, sealed) {
+        Ok(()) => Ok(()),
+        Err(_) => Err("not sealed".into()),
+    }
+}
+
+#[test]
+fn a_group_sealed_between_two_takes_is_one_part(rt: HostRuntime) -> Result<(), Fail> {
+    let alloc = rt.alloc();
+    let mut store = Store::new(alloc, LIMITS);
+    accept(alloc, &mut store, &ONE_EVENT)?;
+    accept(alloc, &mut store, &ONE_EVENT)?;
+    index_one(alloc, &mut store)?;
+    index_one(alloc, &mut store)?;
+    let first = register(alloc, &mut store, Mode::Past)?;
+    let second = register(alloc, &mut store, Mode::Past)?;
+    let taken = take_again(alloc, &mut store, first)?;
+    assert_eq!(rt; taken.parts().len(), 2);
+    seal_two(alloc, &mut store)?;
+    let taken = take_again(alloc, &mut store, second)?;
+    let [Part::Many(sealed)] = taken.parts() else {
+        return Err("not one merged part".into());
+    };
+    assert_eq!(rt; (sealed.first_batch(), sealed.batches()), (0, 2));
+    Ok(())
+}
+
+/// How many batches wait for a query that registered before other calls, as in `take_again`.
+fn waiting(alloc: Global, store: &mut Store, session: &Session) -> Result<Option<u32>, Fail> {
+    let Ok(newest) = store.register(0, Mode::Coming, Expr::And(Items::new(alloc))) else {
+        return Err("not registered".into());
+    };
+    let query = session.query;
+    if query == 0 || query > newest.query {
+        return Err("not of this store".into());
+    }
+    if store.left(query) {
+        return Err("has left".into());
+    }
+    Ok(store.waiting(query))
+}
+
+#[test]
+fn an_inbox_of_two_tells_0_and_2_and_no_more_until_a_take(rt: HostRuntime) -> Result<(), Fail> {
+    let alloc = rt.alloc();
+    let mut store = Store::new(alloc, LIMITS);
+    let session = register(alloc, &mut store, Mode::Both)?;
+    assert_eq!(rt; waiting(alloc, &mut store, &session)?, Some(0));
+    accept(alloc, &mut store, &ONE_EVENT)?;
+    accept(alloc, &mut store, &ONE_EVENT)?;
+    assert_eq!(rt; waiting(alloc, &mut store, &session)?, Some(2));
+    accept(alloc, &mut store, &ONE_EVENT)?;
+    assert_eq!(rt; waiting(alloc, &mut store, &session)?, None);
+    let session = take_again(alloc, &mut store, session)?.settle();
+    assert_eq!(rt; waiting(alloc, &mut store, &session)?, Some(0));
+    Ok(())
+}
+
+#[test]
+fn a_query_from_an_event_that_is_not_there_is_refused(rt: HostRuntime) -> Result<(), Fail> {
+    let alloc = rt.alloc();
+    let mut store = Store::new(alloc, LIMITS);
+    accept(alloc, &mut store, &THREE_EVENTS)?;
+    let mode = Mode::Since { from: 4 };
+    let Err((_, end)) = store.register(0, mode, Expr::And(Items::new(alloc))) else {
+        return Err("registered".into());
+    };
+    assert_eq!(rt; end, RegisterEnd::Ahead { from: 4, have: 3 });
     Ok(())
 }

@@ -1,15 +1,16 @@
 -- Going over an expression's members one by one.
-use Rattle.std.proofs.Common.{◌≡◌, ℕ, zero, suc, ◌+◌, ◌<◌, ◌≤◌, Bool, true, false, not, ◌&&◌, ◌||◌, List, [], ◌∷◌, ◌++◌, length, map, take, replicate, slice_index_or, refl, ap, sym, ◌∙◌, arith}
+use Rattle.std.proofs.Common.{◌≡◌, ℕ, zero, suc, ◌+◌, ◌<◌, ◌≤◌, Bool, true, false, not, ◌&&◌, ◌||◌, List, [], ◌∷◌, ◌++◌, length, map, take, replicate, slice_index_or, Some, refl, ap, sym, subst, ◌∙◌, arith}
 use Rattle.std.specs.List.{list_all, list_any}
 use Rattle.std.proofs.lemmas.List.{length-map, map-append, take_all}
 use Rattle.std.proofs.lemmas.List.Folds.{list_all-append, list_any-append}
-use Rattle.bits_law.specs.Bitwise.{bitwise}
+use Rattle.bits_law.specs.Bitwise.{IsClearFrom, bitwise}
 use Rattle.event_history.specs.Events.{Event}
 use Rattle.query_meaning.specs.declared.expr.Expr.{Expr}
 use Rattle.query_meaning.specs.declared.expr.Expr.TheFolds.{fold-roll-Expr}
 use Rattle.query_meaning.specs.declared.expr.Expr.TheOpen as level
 use Rattle.query_meaning.specs.declared.expr.Expr.TheVariants as expr
 use Rattle.query_meaning.specs.declared.expr.Expr.TheVariants.{And, Not, Or}
+use Rattle.query_meaning.proofs.SureLemmas.{bounded}
 use Rattle.query_meaning.specs.Sure.{Known, known, level_known}
 use Rattle.query_plan.specs.Candidates.{maybe_bits, sure_bits}
 
@@ -136,3 +137,61 @@ all_taken f ms n events bits h a = a ∙ ap (λ (xs : List Expr). map (λ e. lis
 
 pub any_taken : (f : Known → Bool) (ms : List Expr) (n : ℕ) (events : List Event) (bits : List Bool) → length ms ≤ n → AreAny f (take n ms) events bits → AreAny f ms events bits
 any_taken f ms n events bits h a = a ∙ ap (λ (xs : List Expr). map (λ e. list_any f (map (known e.heading e.row) xs)) events) (take_all n ms h)
+
+-- Where no event may match the first members, none does all.
+bool_false : (b : Bool) → (b ≡ true → ⊥) → b ≡ false
+bool_false true h = absurd (h refl)
+bool_false false h = refl
+
+clear_same : (g s f : Event → Bool) (events : List Event) → IsClearFrom (map g events) 0 → ((e : Event) → g e ≡ false → s e ≡ f e) → map s events ≡ map f events
+clear_same g s f [] h same = refl
+clear_same g s f (e ∷ es) h same =
+    ap (λ (b : Bool). b ∷ map s es) (same e (bool_false (g e) (λ t. h 0 (omega arith) (ap (λ (b : Bool). Some b) t))))
+    ∙ ap (λ (bs : List Bool). f e ∷ bs) (clear_same g s f es (λ k le. h (suc k) (omega arith)) same)
+
+and_left : (a b : Bool) → (a && b) ≡ true → a ≡ true
+and_left true b e = refl
+and_left false b e = absurd cc
+
+and_right : (a b : Bool) → (a && b) ≡ true → b ≡ true
+and_right true b e = e
+and_right false b e = absurd cc
+
+all_front : (f : Known → Bool) (k : Expr → Known) (ms : List Expr) (i : ℕ) → list_all f (map k ms) ≡ true → list_all f (map k (take i ms)) ≡ true
+all_front f k ms zero h = refl
+all_front f k [] (suc i) h = refl
+all_front f k (m ∷ ms) (suc i) h =
+    ap (λ (b : Bool). b && list_all f (map k (take i ms))) (and_left (f (k m)) (list_all f (map k ms)) h)
+    ∙ all_front f k ms i (and_right (f (k m)) (list_all f (map k ms)) h)
+
+true_false : (b : Bool) → b ≡ true → b ≡ false → ⊥
+true_false b t f = let unmet : true ≡ false = sym t ∙ f in absurd cc
+
+sure_false : (x : Expr) (e : Event) → (known e.heading e.row x).maybe ≡ false → (known e.heading e.row x).sure ≡ false
+sure_false x e unmet =
+    let b = bounded e.heading e.row x in
+    bool_false (known e.heading e.row x).sure (λ t. true_false (known e.heading e.row x).maybe (b.holds_maybe (b.sure_holds t)) unmet)
+
+front_false : (x : Expr) (ms : List Expr) (i : ℕ) (e : Event) → x ≡ And ms → list_all (λ k. k.maybe) (map (known e.heading e.row) (take i ms)) ≡ false → (known e.heading e.row x).maybe ≡ false
+front_false x ms i e is unmet =
+    ap (λ (y : Expr). (known e.heading e.row y).maybe) is ∙ ap (λ (k : Known). k.maybe) (known_and ms e)
+    ∙ bool_false (list_all (λ k. k.maybe) (map (known e.heading e.row) ms))
+    (λ t. true_false (list_all (λ k. k.maybe) (map (known e.heading e.row) (take i ms))) (all_front (λ k. k.maybe) (known e.heading e.row) ms i t) unmet)
+
+pub clear_maybe : (x : Expr) (ms : List Expr) (i : ℕ) (events : List Event) (maybe_rows : List Bool) → x ≡ And ms → AreAll (λ k. k.maybe) (take i ms) events maybe_rows → IsClearFrom maybe_rows 0
+    → maybe_rows ≡ maybe_bits x events
+clear_maybe x ms i events maybe_rows is a clear =
+    let g = λ (e : Event). list_all (λ k. k.maybe) (map (known e.heading e.row) (take i ms)) in
+    a ∙ clear_same g g (λ e. (known e.heading e.row x).maybe) events (subst (λ (bs : List Bool). IsClearFrom bs 0) a clear)
+    (λ e unmet. unmet ∙ sym (front_false x ms i e is unmet))
+
+pub clear_sure : (x : Expr) (ms : List Expr) (i : ℕ) (events : List Event) (sure_rows maybe_rows : List Bool) → x ≡ And ms → AreAll (λ k. k.sure) (take i ms) events sure_rows
+    → AreAll (λ k. k.maybe) (take i ms) events maybe_rows → IsClearFrom maybe_rows 0 → sure_rows ≡ sure_bits x events
+clear_sure x ms i events sure_rows maybe_rows is s a clear =
+    let g = λ (e : Event). list_all (λ k. k.maybe) (map (known e.heading e.row) (take i ms)) in
+    s ∙ clear_same g (λ e. list_all (λ k. k.sure) (map (known e.heading e.row) (take i ms))) (λ e. (known e.heading e.row x).sure) events
+    (subst (λ (bs : List Bool). IsClearFrom bs 0) a clear)
+    (λ e unmet.
+    sym (ap (λ (k : Known). k.sure) (known_and (take i ms) e))
+    ∙ sure_false (And (take i ms)) e (ap (λ (k : Known). k.maybe) (known_and (take i ms) e) ∙ unmet)
+    ∙ sym (sure_false x e (front_false x ms i e is unmet)))

@@ -1,6 +1,6 @@
 //! An expression is asked of a part, test by test.
-ghost use Rattle.std.specs.Prelude.{◌≡◌, ◌&&◌, ◌||◌, length, map, not, replicate, IfOk};
-ghost use Rattle.bits_law.specs.Bitwise.{bitwise};
+ghost use Rattle.std.specs.Prelude.{◌≡◌, ◌&&◌, ◌||◌, length, map, not, replicate, IfOk, IsTrue};
+ghost use Rattle.bits_law.specs.Bitwise.{IsClearFrom, bitwise};
 ghost use Rattle.event_history.specs.Pieces.{piece_events};
 ghost use Rattle.partition.specs.Parts.{piece_of};
 ghost use Rattle.query_plan.specs.Candidates.{maybe_bits, sure_bits};
@@ -33,6 +33,10 @@ pub fn candidates(alloc: Global, expr: &Expr, part: &Part) -> Result<Pair, Alloc
         Expr::And(members) => {
             let mut all = every(alloc, true, part.rows())?;
             for member in members.as_slice() {
+                // No further member can let match what none may any more.
+                if is_clear(&all.maybe) {
+                    return Ok(all);
+                }
                 let more = candidates(alloc, member, part)?;
                 all = both(&all, &more)?;
             }
@@ -47,6 +51,13 @@ pub fn candidates(alloc: Global, expr: &Expr, part: &Part) -> Result<Pair, Alloc
             Ok(all)
         }
     }
+}
+
+/// Whether no row is set.
+fn is_clear(bits: &Bitmap) -> bool
+    ensures { IsTrue result → IsClearFrom bits.now 0 }
+{
+    bits.next_one(0).is_none()
 }
 
 /// So many rows, of which each is known to match or not to.

@@ -3,7 +3,7 @@ use Rattle.event_history.specs.Pieces.{piece_events}
 use Rattle.partition.specs.Parts.{piece_of}
 use Rattle.query_meaning.specs.declared.expr.Expr.{Expr}
 use Rattle.query_meaning.specs.declared.expr.Expr.TheVariants.{And, Not, Or}
-use Rattle.query_plan.proofs.PlanLemmas.{all_maybe, all_more, all_sure, all_taken, any_maybe, any_more, any_sure, any_taken, constant, none_maybe, none_sure}
+use Rattle.query_plan.proofs.PlanLemmas.{all_maybe, all_more, all_sure, all_taken, any_maybe, any_more, any_sure, any_taken, clear_maybe, clear_sure, constant, none_maybe, none_sure}
 use Rattle.query_plan.proofs.plan.+candidates.Goals as goal
 
 pub loop-member-init : goal.loop-member-init
@@ -87,3 +87,15 @@ returns-after-loop-member-2-clause-maybe t c =
     let members = c.as_slice-member-items-in-Or.result.now in
     any_maybe c.args.expr.now members events c.loop-member-2.all.maybe (c.in-Or.is ∙ ap (λ (ms : List Expr). Or ms) (sym c.as_slice-member-items-in-Or.ensures))
     (any_taken (λ k. k.maybe) members c.loop-member-2.member-index events c.loop-member-2.all.maybe (omega (arith, c.loop-member-2-test.false)) c.loop-member-2.invariant.maybe)
+
+pub returns-then-is_clear-clause-sure : goal.returns-then-is_clear-clause-sure
+returns-then-is_clear-clause-sure t c =
+    let members = c.as_slice-member-items.result.now in
+    clear_sure c.args.expr.now members c.loop-member.member-index (piece_events (piece_of c.args.part.now)) c.loop-member.all.sure c.loop-member.all.maybe
+    (c.in-And.is ∙ ap (λ (ms : List Expr). And ms) (sym c.as_slice-member-items.ensures)) c.loop-member.invariant.sure c.loop-member.invariant.maybe (c.is_clear.ensures c.if-is_clear.true)
+
+pub returns-then-is_clear-clause-maybe : goal.returns-then-is_clear-clause-maybe
+returns-then-is_clear-clause-maybe t c =
+    let members = c.as_slice-member-items.result.now in
+    clear_maybe c.args.expr.now members c.loop-member.member-index (piece_events (piece_of c.args.part.now)) c.loop-member.all.maybe
+    (c.in-And.is ∙ ap (λ (ms : List Expr). And ms) (sym c.as_slice-member-items.ensures)) c.loop-member.invariant.maybe (c.is_clear.ensures c.if-is_clear.true)
