@@ -184,4 +184,4 @@ pub groups_carried : (limits : Limits) (old new : List Entry) (e : Entry) (seals
 groups_carried limits old new e all unsealed is quiet k =
     subst (λ (h : List Entry). KeepsGroups limits (past h) all unsealed) (sym is)
     (subst (λ (b : List Entry). KeepsGroups limits b all unsealed) (sym (past_more old e))
-    (record { size = k.size; each = λ g. group_kept limits.group e (past old) all g quiet (k.each g); below = below_more (past old) e unsealed k.below }))
+    (record { size = k.size; few = k.few; each = λ g. group_kept limits.group e (past old) all g quiet (k.each g); below = below_more (past old) e unsealed k.below }))

@@ -190,6 +190,7 @@ module _ (limits : Limits) (before : List Entry) (seat k : ℕ) (seals grown : L
   unfolding grown_seals
   seal_groups unsealed after is all = record {
     size = is.size;
+    few = is.few;
     each = each_then is.each;
     below = λ g h.
         elim (leb_tells unsealed g) as (λ _. is_sealed g (entry seat (Seal k) ∷ before) ≡ true) [
@@ -253,7 +254,7 @@ joined_next [] q head some is = absurd (omega (arith, some))
 joined_next (p ∷ ps) q head some is =
     joined_more p ps q ∙ ap (λ (x : Piece). record { batch = x.batch; first = x.first; contents = x.contents ++ q.contents }) is
 
-front_wider : (xs : List Content) (n : ℕ) → take (suc n) xs ≡ take n xs ++ option_to_list (slice_get xs n)
+pub front_wider : (xs : List Content) (n : ℕ) → take (suc n) xs ≡ take n xs ++ option_to_list (slice_get xs n)
 front_wider [] zero = refl
 front_wider [] (suc n) = refl
 front_wider (x ∷ xs) zero = refl
@@ -270,7 +271,7 @@ one_wider : (xs : List Content) (b n : ℕ) → take (suc n) (drop b xs) ≡ tak
 one_wider xs b n =
     front_wider (drop b xs) n ∙ ap (λ (o : Option Content). take n (drop b xs) ++ option_to_list o) (get_behind xs b n)
 
-pieces_counted : (before : List Entry) (b n : ℕ) → length (group_pieces before b n) ≡ n
+pub pieces_counted : (before : List Entry) (b n : ℕ) → length (group_pieces before b n) ≡ n
 pieces_counted before b zero = refl
 pieces_counted before b (suc n) =
     length-append (group_pieces before b n) (piece_in before (b + n) ∷ []) ∙ omega (arith, pieces_counted before b n)

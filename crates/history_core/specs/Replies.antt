@@ -1,11 +1,12 @@
 -- That a call makes the step of its request.
-use Rattle.std.specs.Prelude.{◌≡◌, ℕ, ◌*◌, ◌<◌, ◌≤◌, true, [], ◌∷◌, Option, None, Some, Result, Ok, Err, slice_get}
+use Rattle.std.specs.Prelude.{◌≡◌, ℕ, Bool, ◌&&◌, nat_le, nat_lt, ◌*◌, ◌<◌, ◌≤◌, true, List, [], ◌∷◌, Option, None, Some, Result, Ok, Err, length, slice_get}
 use Rattle.std.specs.declared.alloc.Global.{Global}
 use Rattle.std.specs.declared.sync.Arc.{Arc}
 use Rattle.std.specs.declared.alloc.AllocError.{AllocError}
 use Rattle.event_batch.specs.Contents.{Spelled}
+use Rattle.event_history.specs.declared.entry.Entry.{Entry}
 use Rattle.event_history.specs.Histories.{accepted, first_of, is_full, past}
-use Rattle.event_history.specs.Pieces.{Piece, group_piece, joined}
+use Rattle.event_history.specs.Pieces.{AreAdjacent, Piece, group_piece, joined}
 use Rattle.event_history.specs.Queries.{query_count}
 use Rattle.event_history.specs.Steps as s
 use Rattle.query_meaning.specs.declared.expr.Expr.{Expr}
@@ -46,8 +47,11 @@ accept_reply (Err (packed, accept.Full have limit)) = Some (s.Full have limit)
 accept_reply (Err (packed, accept.Memory)) = None
 
 -- the claim is of this store: the batch was accepted with these bytes
+abbrev pub IsClaimAt : List Entry → Claim → Type 0
+IsClaimAt before c = (slice_get (accepted before) c.batch ≡ Some c.packed) × (c.first ≡ first_of c.batch before)
+
 abbrev pub IsClaim : Shown → Claim → Type 0
-IsClaim store c = (slice_get (accepted (past store.history)) c.batch ≡ Some c.packed) × (c.first ≡ first_of c.batch (past store.history))
+IsClaim store c = IsClaimAt (past store.history) c
 
 -- what an index of the claimed batch stands for
 abbrev pub claimed_piece : Claim → Piece
@@ -85,10 +89,11 @@ GivesBackClaim claim fragment (publish.Already b) = Unit {0}
 GivesBackClaim claim fragment (publish.Memory c f) = (c ≡ claim) × (f ≡ fragment)
 
 -- the group is one of this store: its batches are indexed, and its indexes stand for them
+abbrev pub IsGroupAt : ℕ → List Entry → Group → Type 0
+IsGroupAt size before g = (is_full size g.number before ≡ true) × (g.fragments ≡ s.group_pieces before (g.number * size) size)
+
 abbrev pub IsGroupOf : Shown → Group → Type 0
-IsGroupOf store g =
-    (is_full store.limits.group g.number (past store.history) ≡ true)
-    × (g.fragments ≡ s.group_pieces (past store.history) (g.number * store.limits.group) store.limits.group)
+IsGroupOf store g = IsGroupAt store.limits.group (past store.history) g
 
 -- a group that was given is of the store
 abbrev pub GivesGroup : Shown → Option Group → Type 0
@@ -99,6 +104,15 @@ GivesGroup store (Some g) = IsGroupOf store g
 abbrev pub MergesTo : Shown → Option Group → Type 0
 MergesTo store None = Unit {0}
 MergesTo store (Some g) = joined g.fragments ≡ group_piece store.limits.group g.number (past store.history)
+
+-- indexes that may be merged: 1 to 256 of batches that follow each other
+abbrev pub MayMerge : List Piece → Type 0
+MayMerge pieces = (0 < length pieces) × (length pieces ≤ 256) × AreAdjacent pieces
+
+-- the indexes of a group that was given may be merged
+abbrev pub GivesMergeable : Option Group → Type 0
+GivesMergeable None = Unit {0}
+GivesMergeable (Some g) = MayMerge g.fragments
 
 abbrev pub group_given : Option Group → s.Reply
 group_given None = s.NoGroup
@@ -118,8 +132,14 @@ GivesBackGroup group sealed (seal.AlreadySealed k) = Unit {0}
 GivesBackGroup group sealed (seal.Memory g x) = (g ≡ group) × (x ≡ sealed)
 
 -- the query was registered
+abbrev pub IsRegisteredAt : List Entry → ℕ → Type 0
+IsRegisteredAt before q = (0 < q) × (q ≤ query_count before)
+
 abbrev pub IsRegistered : Shown → ℕ → Type 0
-IsRegistered store q = (0 < q) × (q ≤ query_count (past store.history))
+IsRegistered store q = IsRegisteredAt (past store.history) q
+
+abbrev pub is_registered : List Entry → ℕ → Bool
+is_registered before q = nat_lt 0 q && nat_le q (query_count before)
 
 abbrev pub register_reply : Result Session (Expr × RegisterEnd) → Option s.Reply
 register_reply (Ok session) = Some (s.Registered session.query session.registered session.mode)

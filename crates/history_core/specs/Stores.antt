@@ -96,6 +96,7 @@ AllSealedBelow before unsealed = (k : ℕ) → k < unsealed → is_sealed k befo
 
 pub record KeepsGroups (limits : Limits) (before : List Entry) (seals : List Seal) (unsealed : ℕ) : Type 0 where
   pub size : 0 < limits.group
+  pub few : limits.group ≤ 256
   pub each : EachGroup limits.group before seals
   pub below : AllSealedBelow before unsealed
 

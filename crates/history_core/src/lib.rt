@@ -6,6 +6,7 @@
 
 mod answers;
 mod kept;
+mod laws;
 mod session;
 mod shared;
 mod store;
@@ -18,6 +19,7 @@ pub use answers::{
     TakeEnd,
 };
 pub use event_history::{Deed, Entry, Limits, Mode, SharedExpr};
+pub use laws::given_stays;
 pub use session::Session;
 pub use store::Store;
 pub use taken::{Held, Taken};

@@ -72,12 +72,8 @@ fn register(alloc: Global, store: &mut Store, mode: Mode) -> Result<Session, Fai
     }
 }
 
-/// A take of a query that registered before other calls: one more query registers first, and has no lesser number.
-fn take_again(alloc: Global, store: &mut Store, session: Session) -> Result<Taken, Fail> {
-    let Ok(newest) = store.register(0, Mode::Coming, Expr::And(Items::new(alloc))) else {
-        return Err("not registered".into());
-    };
-    if session.query == 0 || session.query > newest.query {
+fn take_again(store: &mut Store, session: Session) -> Result<Taken, Fail> {
+    if !store.is_registered(session.query()) {
         return Err("not of this store".into());
     }
     match store.take(0, session) {
@@ -157,7 +153,7 @@ fn a_query_that_left_is_told_so_and_another_goes_on(rt: HostRuntime) -> Result<(
         return Err("taken".into());
     };
     assert_eq!(rt; end, TakeEnd::Left { query: 2 });
-    let taken = take_again(alloc, &mut store, stays)?;
+    let taken = take_again(&mut store, stays)?;
     assert_eq!(rt; (taken.query(), taken.live()), (1, (0, 1)));
     Ok(())
 }
@@ -173,13 +169,13 @@ fn a_take_goes_on_where_the_last_one_stopped(rt: HostRuntime) -> Result<(), Fail
         let mut store = Store::new(alloc, LIMITS);
         accept(alloc, &mut store, &THREE_EVENTS)?;
         let session = register(alloc, &mut store, mode)?;
-        let taken = take_again(alloc, &mut store, session)?;
+        let taken = take_again(&mut store, session)?;
         assert_eq!(rt;
             (taken.past(), taken.live(), taken.again()),
             (stopped, live, Some(0))
         );
         index_one(alloc, &mut store)?;
-        let taken = take_again(alloc, &mut store, taken.settle())?;
+        let taken = take_again(&mut store, taken.settle())?;
         assert_eq!(rt;
             (taken.past(), taken.live(), taken.again()),
             (rest, live, None)
@@ -192,15 +188,6 @@ fn seal_two(alloc: Global, store: &mut Store) -> Result<(), Fail> {
     let Some(group) = store.claim_group()? else {
         return Err("no group".into());
     };
-    let [first, second] = group.fragments.as_slice() else {
-        return Err("not two".into());
-    };
-    let before = Part::One(first.clone()?);
-    if before.first_batch().checked_add(before.batches()) != Some(second.no())
-        || before.first().checked_add(before.rows()) != Some(second.first())
-    {
-        return Err("not adjacent".into());
-    }
     let sealed = Arc::new(alloc, Sealed::merge(alloc, group.fragments.as_slice())?)?;
     match store.publish_group(0, group, sealed) {
         Ok(()) => Ok(()),
@@ -218,10 +205,10 @@ fn a_group_sealed_between_two_takes_is_one_part(rt: HostRuntime) -> Result<(), F
     index_one(alloc, &mut store)?;
     let first = register(alloc, &mut store, Mode::Past)?;
     let second = register(alloc, &mut store, Mode::Past)?;
-    let taken = take_again(alloc, &mut store, first)?;
+    let taken = take_again(&mut store, first)?;
     assert_eq!(rt; taken.parts().len(), 2);
     seal_two(alloc, &mut store)?;
-    let taken = take_again(alloc, &mut store, second)?;
+    let taken = take_again(&mut store, second)?;
     let [Part::Many(sealed)] = taken.parts() else {
         return Err("not one merged part".into());
     };
@@ -229,17 +216,9 @@ fn a_group_sealed_between_two_takes_is_one_part(rt: HostRuntime) -> Result<(), F
     Ok(())
 }
 
-/// How many batches wait for a query that registered before other calls, as in `take_again`.
-fn waiting(alloc: Global, store: &mut Store, session: &Session) -> Result<Option<u32>, Fail> {
-    let Ok(newest) = store.register(0, Mode::Coming, Expr::And(Items::new(alloc))) else {
-        return Err("not registered".into());
-    };
-    let query = session.query;
-    if query == 0 || query > newest.query {
-        return Err("not of this store".into());
-    }
-    if store.left(query) {
-        return Err("has left".into());
+fn waiting(store: &Store, query: u32) -> Result<Option<u32>, Fail> {
+    if !store.is_registered(query) || store.left(query) {
+        return Err("not here".into());
     }
     Ok(store.waiting(query))
 }
@@ -249,14 +228,14 @@ fn an_inbox_of_two_tells_0_and_2_and_no_more_until_a_take(rt: HostRuntime) -> Re
     let alloc = rt.alloc();
     let mut store = Store::new(alloc, LIMITS);
     let session = register(alloc, &mut store, Mode::Both)?;
-    assert_eq!(rt; waiting(alloc, &mut store, &session)?, Some(0));
+    assert_eq!(rt; waiting(&store, session.query())?, Some(0));
     accept(alloc, &mut store, &ONE_EVENT)?;
     accept(alloc, &mut store, &ONE_EVENT)?;
-    assert_eq!(rt; waiting(alloc, &mut store, &session)?, Some(2));
+    assert_eq!(rt; waiting(&store, session.query())?, Some(2));
     accept(alloc, &mut store, &ONE_EVENT)?;
-    assert_eq!(rt; waiting(alloc, &mut store, &session)?, None);
-    let session = take_again(alloc, &mut store, session)?.settle();
-    assert_eq!(rt; waiting(alloc, &mut store, &session)?, Some(0));
+    assert_eq!(rt; waiting(&store, session.query())?, None);
+    let session = take_again(&mut store, session)?.settle();
+    assert_eq!(rt; waiting(&store, session.query())?, Some(0));
     Ok(())
 }
 

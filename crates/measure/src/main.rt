@@ -5,6 +5,7 @@ mod batches;
 mod bitmaps;
 mod indexes;
 mod packets;
+mod stores;
 mod turns;
 
 use bitmaps::Spent;
@@ -17,7 +18,7 @@ use std::{env, io};
 use word_bitmap::WordBitmap;
 
 const USAGE: &str =
-    "measure turns THREADS TURNS, decode PACKETS, bitmaps BITS ONE_IN, batches ROWS ENCODES UNPACKS, indexes WORK RELATION COLUMN END ROWS PART TIMES";
+    "measure turns THREADS TURNS, decode PACKETS, bitmaps BITS ONE_IN, batches ROWS ENCODES UNPACKS, indexes WORK RELATION COLUMN END ROWS PART TIMES, store BATCHES QUERIES";
 
 fn main(rt: HostRuntime) -> anyhow::Result<ExitCode> {
     let mut words = env::args(&rt)?;
@@ -67,6 +68,9 @@ fn main(rt: HostRuntime) -> anyhow::Result<ExitCode> {
             }
         }
     }
+    if what == Some("store") && measured_store(&rt, &mut words)? {
+        return Ok(ExitCode::SUCCESS);
+    }
     if what == Some("indexes") && measured_indexes(&rt, &mut words)? {
         return Ok(ExitCode::SUCCESS);
     }
@@ -100,6 +104,26 @@ fn measured_indexes(rt: &HostRuntime, words: &mut env::Args<Global>) -> anyhow::
         if let Ok(told) = indexes::measure::<WordBitmap>(rt.alloc(), column, &plan) {
             println!(rt; "column {column} {told}")?;
         }
+    }
+    Ok(true)
+}
+
+// The nanoseconds that the calls on a store took for the first tenth of so many batches and for the last, a line each; or
+// false where the words name none.
+fn measured_store(rt: &HostRuntime, words: &mut env::Args<Global>) -> anyhow::Result<bool> {
+    let batches = words.next().and_then(|word| word.parse().ok());
+    let queries = words.next().and_then(|word| word.parse().ok());
+    let (Some(batches), Some(queries)) = (batches, queries) else {
+        return Ok(false);
+    };
+    let Some((first, last)) = stores::measure(rt, rt.alloc(), batches, queries)? else {
+        return Ok(false);
+    };
+    for (part, spent) in [("first", first), ("last", last)] {
+        println!(rt; "{part}-accept {}", spent.accept)?;
+        println!(rt; "{part}-claim {}", spent.claim)?;
+        println!(rt; "{part}-publish {}", spent.publish)?;
+        println!(rt; "{part}-take {}", spent.take)?;
     }
     Ok(true)
 }

@@ -6,7 +6,7 @@ ghost use Rattle.event_history.specs.Histories.{batch_count, is_full, is_indexed
 ghost use Rattle.event_history.specs.Pieces.{group_piece, joined, piece_in};
 ghost use Rattle.event_history.specs.Steps.{group_pieces};
 ghost use Rattle.event_history.specs.Steps as s;
-ghost use Rattle.history_core.specs.Replies.{GivesBackGroup, GivesGroup, IsGroupOf, Makes, MergesTo, Replies, claim_group_reply, publish_group_reply};
+ghost use Rattle.history_core.specs.Replies.{GivesBackGroup, GivesGroup, GivesMergeable, IsGroupOf, Makes, MayMerge, MergesTo, Replies, claim_group_reply, publish_group_reply};
 ghost use Rattle.history_core.specs.Searches.{AllSealed};
 ghost use Rattle.history_core.specs.Stores.{seal_at};
 
@@ -21,11 +21,12 @@ use std::sync::Arc;
 
 impl Store {
     /// The least group whose batches are all indexed and that has no merged index. `None` comes exactly where there is
-    /// none.
+    /// none. The indexes of a group that is given may be merged, and joined they stand for its batches.
     pub fn claim_group(&self) -> Result<Option<Group>, AllocError>
         ensures step { Replies self.now s.ClaimGroup (claim_group_reply result) }
         ensures given { IfOk result (GivesGroup self.now) }
         ensures merged { IfOk result (MergesTo self.now) }
+        ensures mergeable { IfOk result GivesMergeable }
     {
         let Some(number) = self.next_group() else {
             return Ok(None);
@@ -46,7 +47,7 @@ impl Store {
         sealed: Arc<Sealed>,
     ) -> Result<(), SealEnd>
         requires group { IsGroupOf self.old group }
-        requires sealed { arc_value sealed ≡ group_piece self.old.limits.group group.number (past self.old.history) }
+        requires sealed { arc_value sealed ≡ joined group.fragments }
         ensures step { Makes self.old self.new seat (s.PublishGroup group.number) (publish_group_reply result) }
         ensures back { IfErr result (GivesBackGroup group sealed) }
     {
@@ -118,6 +119,7 @@ impl Store {
         requires { is_full self.now.limits.group number (past self.now.history) ≡ true }
         ensures pieces { IfOk result (λ f. f ≡ group_pieces (past self.now.history) (number * self.now.limits.group) self.now.limits.group) }
         ensures merged { IfOk result (λ f. joined f ≡ group_piece self.now.limits.group number (past self.now.history)) }
+        ensures mergeable { IfOk result MayMerge }
     {
         let size = self.limits.group as usize;
         let start = number * size;

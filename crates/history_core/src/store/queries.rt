@@ -1,9 +1,9 @@
 //! Registering queries, and their leaving.
-ghost use Rattle.std.specs.Prelude.{◌≡◌, IfErr, IfOk};
+ghost use Rattle.std.specs.Prelude.{◌≡◌, IfErr, IfOk, IsTrue};
 ghost use Rattle.event_history.specs.Histories.{past};
 ghost use Rattle.event_history.specs.Queries.{has_left};
 ghost use Rattle.event_history.specs.Steps as s;
-ghost use Rattle.history_core.specs.Replies.{IsRegistered, Makes, leave_reply, register_reply};
+ghost use Rattle.history_core.specs.Replies.{IsRegistered, Makes, is_registered, leave_reply, register_reply};
 
 use super::Store;
 use crate::answers::{LeaveEnd, RegisterEnd};
@@ -82,6 +82,14 @@ impl Store {
             deed: Deed::Leave { query },
         });
         Ok(())
+    }
+
+    /// Whether a query is registered: queries count from 1.
+    pub fn is_registered(&self, query: u32) -> bool
+        ensures value { result ≡ is_registered (past self.now.history) query }
+        ensures known { IsTrue result → IsRegistered self.now query }
+    {
+        0 < query && query as usize <= self.queries.len()
     }
 
     /// Whether a registered query has left.

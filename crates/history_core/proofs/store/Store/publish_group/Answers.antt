@@ -1,15 +1,16 @@
-use Rattle.std.proofs.Common.{◌≡◌, ◌+◌, ◌≤◌, ◌++◌, ◌∷◌, [], List, Some, true, false, length, ap, ◌∙◌, arith, subst, sym}
+use Rattle.std.proofs.Common.{◌≡◌, ◌+◌, ◌*◌, ◌≤◌, ◌++◌, ◌∷◌, [], List, Some, true, false, length, ap, ◌∙◌, arith, subst, sym}
 use Rattle.std.proofs.Math.ListN.{set}
 use Rattle.event_history.specs.declared.entry.Deed.TheVariants.{Seal}
 use Rattle.event_history.specs.declared.entry.Entry.{Entry}
 use Rattle.event_history.specs.Histories.{is_full, is_sealed, past}
-use Rattle.event_history.specs.Pieces.{group_piece}
+use Rattle.event_history.specs.Pieces.{Piece, group_piece, joined}
+use Rattle.event_history.specs.Steps.{group_pieces}
 use Rattle.history_core.specs.declared.kept.Seal.{Seal as KeptSeal}
 use Rattle.history_core.specs.Searches.{AllSealed}
 use Rattle.history_core.specs.Shown.{Shown}
 use Rattle.history_core.specs.Stores.{KeepsGroups}
 use Rattle.history_core.proofs.CarryLemmas.{carried, past_more}
-use Rattle.history_core.proofs.GroupLemmas.{full_within, number_within, on_ok, seal_groups, seal_keeps}
+use Rattle.history_core.proofs.GroupLemmas.{full_within, joined_group, number_within, on_ok, seal_groups, seal_keeps}
 use Rattle.history_core.proofs.store.Store.publish_group.Goals as goal
 
 pub overflow_add-at : goal.overflow_add-at
@@ -36,7 +37,10 @@ invariant_of-self-2 c =
     let unsealed_yet : is_sealed k (past i.entries.items) ≡ false =
     ap (λ (s : Shown). is_sealed k (past s.history)) c.self.view_is ∙ sym c.is_sealed.ensures ∙ c.if-is_sealed.false in
     let stands : c.new.result ≡ group_piece i.limits.group k (past i.entries.items) =
-    c.new.ensures ∙ c.requires.sealed ∙ ap (λ (s : Shown). group_piece s.limits.group k (past s.history)) (sym c.self.view_is) in
+    c.new.ensures ∙ c.requires.sealed
+    ∙ ap (λ (ps : List Piece). joined ps)
+    (c.requires.group.1 ∙ ap (λ (s : Shown). group_pieces (past s.history) (k * s.limits.group) s.limits.group) (sym c.self.view_is))
+    ∙ joined_group i.limits.group k (past i.entries.items) c.self.invariant.groups.size in
     let new : KeptSeal = record { sealed = Some c.new.result } in
     let seals : List KeptSeal = set c.grow.new.seals.items k new in
     let after = c.first_unsealed-self-inside.result in
