@@ -63,6 +63,7 @@ impl Store {
         if block <= self.blocks.count() {
             return Ok(());
         }
+        self.blocks.make_room()?;
         self.blocks.store(&self.keys, self.taken, block)?;
         self.taken = 0;
         Ok(())
