@@ -155,6 +155,9 @@ fn add_moved(heads: &mut Vec<Head>, other: &[Head], from: usize) -> Result<(), A
     Ok(())
 }
 
+/// For how many blocks there is room once the first is stored.
+const FIRST: usize = 16;
+
 /// Blocks of `width` columns, in which a column that is equal in all rows that have a key keeps no word.
 #[derive(Drop)]
 pub(crate) struct Blocks {
@@ -247,6 +250,17 @@ impl Blocks {
             key,
             among,
         )
+    }
+
+    /// Makes room for the first blocks, where there are none.
+    pub(crate) fn make_room(&mut self) -> Result<(), AllocError>
+        ensures { self.new ≡ self.old }
+    {
+        if self.present.is_empty() {
+            self.present.reserve(FIRST)?;
+            self.heads.reserve(FIRST)?;
+        }
+        Ok(())
     }
 
     /// Adds a block of the keys that `taken` has, and blocks without a key behind it up to `count` blocks. After a

@@ -63,6 +63,7 @@ impl Store {
         if block <= self.blocks.count() {
             return Ok(());
         }
+        self.blocks.make_room()?;
         self.blocks.store(&self.keys, self.taken, block)?;
         self.taken = 0;
         Ok(())
@@ -84,6 +85,7 @@ impl Store {
     }
 
     /// Writes a key at `row`, which is among those that wait.
+    #[inline(always)]
     fn place<R: RowBits>(&mut self, row: u64, key: &R)
         requires { row / 64 ≡ length self.old.blocks.blocks }
         ensures width { self.new.blocks.width ≡ self.old.blocks.width }
@@ -97,6 +99,7 @@ impl Store {
     }
 
     /// Puts a key at `row`. After a refusal all is as before.
+    #[inline(always)]
     pub(crate) fn put<R: RowBits>(&mut self, row: u64, key: &R) -> Result<(), AllocError>
         requires { 64 * length self.old.blocks.blocks ≤ row }
         ensures width { self.new.blocks.width ≡ self.old.blocks.width }

@@ -70,6 +70,7 @@ impl<B: Bits> Table<B> {
 
     /// Places a key at `row`, the rows between having none. `TooLong` comes exactly where there would be more than
     /// 2^40 rows. After a refusal the table is as before.
+    #[inline(always)]
     pub fn put<R: RowBits>(&mut self, row: u64, key: &R) -> Result<(), BitsEnd>
         requires { length self.old.present ≤ row }
         ensures ok { OnOk result (IsPlaced self.old self.new row (R.bit key.now)) }

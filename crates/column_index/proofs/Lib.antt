@@ -7,5 +7,6 @@ pub mod KindLemmas
 pub mod NumberLemmas
 pub mod PairLemmas
 pub mod PortLemmas
+pub mod PresenceLemmas
 pub mod TextLemmas
 mod Vectors

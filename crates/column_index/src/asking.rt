@@ -53,7 +53,8 @@ impl ColumnIndex {
         match rel {
             Rel::Eq => {
                 let set = self.set()?;
-                let unset = self.has.and_not(&set)?;
+                let has = self.has.bits()?;
+                let unset = has.and_not(&set)?;
                 Ok(unset)
             }
             Rel::Ne => {
@@ -61,7 +62,8 @@ impl ColumnIndex {
                 Ok(set)
             }
             _ => {
-                let none = self.has.and_not(&self.has)?;
+                let has = self.has.bits()?;
+                let none = has.and_not(&has)?;
                 Ok(none)
             }
         }

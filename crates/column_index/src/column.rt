@@ -1,7 +1,8 @@
 ghost use Rattle.std.specs.Prelude.{◌≤◌, length, IsTrue};
 ghost use Rattle.column_index.specs.Kept.{is_made, keys_rows};
 
-use crate::kept::{Bitmap, Keys};
+use crate::kept::Keys;
+use crate::presence::Presence;
 use vast_value::Kind;
 
 /// An index of one column: at each row a cell of the column's kind, or none where the row's layout has no such column.
@@ -11,7 +12,7 @@ use vast_value::Kind;
 #[derive(Drop)]
 pub struct ColumnIndex {
     pub(crate) kind: Kind,
-    pub(crate) has: Bitmap,
+    pub(crate) has: Presence,
     pub(crate) keys: Keys,
     ghost made: { IsTrue (is_made kind keys) },
     ghost behind: { keys_rows keys ≤ length has },

@@ -7,8 +7,9 @@ ghost use Rattle.vast_value.specs.Kinds.{has_kind};
 ghost use Rattle.column_index.specs.Stands.{Stands};
 
 use crate::column::ColumnIndex;
-use crate::kept::{Bitmap, Keys};
-use bits_law::{Bits, BitsEnd, LONGEST};
+use crate::kept::Keys;
+use crate::presence::Presence;
+use bits_law::{BitsEnd, LONGEST};
 use std::alloc::{AllocError, Global};
 use vast_value::{Cell, Kind, ranged_cell};
 
@@ -21,7 +22,7 @@ impl ColumnIndex {
         let keys = Keys::new(alloc, kind)?;
         Ok(ColumnIndex {
             kind,
-            has: Bitmap::empty(alloc),
+            has: Presence::new(alloc),
             keys,
         })
     }
@@ -68,14 +69,14 @@ impl ColumnIndex {
     fn grow(&mut self, row: u64, cell: &Cell) -> Result<(), BitsEnd>
         requires after { length self.old.has ≤ row }
         requires kind { IsTrue (has_kind cell.now self.old.kind) }
+        requires short { row < 2 ^ 40 }
         ensures kind { self.new.kind ≡ self.old.kind }
         ensures cells { OnOk result ((cells : List (Option Cell)) → Stands self.old cells → Stands self.new (with_key cells row cell.now)) }
         ensures rows { OnOk result (length self.new.has ≡ row + 1) }
     {
         ranged_cell(cell);
-        let gap = row - self.has.len();
-        self.has.push_run(false, gap)?;
-        self.has.push_run(true, 1)?;
+        self.has.reach(row)?;
+        self.has.push();
         self.keys.put(row, cell)?;
         Ok(())
     }
@@ -106,8 +107,12 @@ impl ColumnIndex {
     {
         let ColumnIndex { kind, has, keys } = self;
         let mut has = has;
-        let gap = rows - has.len();
-        has.push_run(false, gap)?;
+        if rows > LONGEST {
+            let have = has.len();
+            let more = rows - have;
+            return Err(BitsEnd::TooLong { have, more });
+        }
+        has.reach(rows)?;
         Ok(ColumnIndex { kind, has, keys })
     }
 
@@ -132,7 +137,8 @@ impl ColumnIndex {
     }
 
     fn joined(self, other: &Self) -> Result<Self, BitsEnd>
-        requires { other.now.kind ≡ self.kind }
+        requires kind { other.now.kind ≡ self.kind }
+        requires short { length self.has + length other.now.has ≤ 2 ^ 40 }
         ensures kind { IfOk result (λ c. c.kind ≡ self.kind) }
         ensures cells { IfOk result (λ c. (cells more : List (Option Cell)) → Stands self cells → Stands other.now more → Stands c (cells ++ more)) }
         ensures rows { IfOk result (λ c. length c.has ≡ length self.has + length other.now.has) }

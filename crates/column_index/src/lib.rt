@@ -13,6 +13,7 @@ mod kept;
 mod keys;
 mod numbers;
 mod ports;
+mod presence;
 mod subnets;
 mod texts;
 

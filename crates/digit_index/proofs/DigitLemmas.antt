@@ -1,21 +1,20 @@
 -- Digits in mixed bases, and what is asked of them.
-use Rattle.std.proofs.Common.{◌≡◌, ℕ, zero, suc, ◌+◌, ◌-◌, ◌*◌, ◌/◌, ◌%◌, ◌^◌, ◌<◌, ◌≤◌, Bool, true, false, cond, eqb, ltb, leb, not, ◌&&◌, ◌||◌, ◌⊎◌, List, [], ◌∷◌, length, get_or, take, drop, Option, Result, Ok, Err, IfOk, refl, ap, sym, ◌∙◌, subst, inl, inr, arith}
+use Rattle.std.proofs.Common.{◌≡◌, ℕ, zero, suc, ◌+◌, ◌-◌, ◌*◌, ◌/◌, ◌%◌, ◌^◌, ◌<◌, ◌≤◌, Bool, true, false, cond, eqb, ltb, leb, not, ◌&&◌, ◌||◌, List, [], ◌∷◌, length, get_or, set, min, max, take, drop, Option, Result, Ok, Err, IfOk, refl, ap, sym, ◌∙◌, subst, inl, inr, arith}
 use Rattle.std.proofs.Math.Nat.{div-one, mod-one, mod-eq_of_lt, mod-lt, div-div-eq-div-mul, mul_assoc, mul_comm, mul-le-mul_right}
 use Rattle.std.proofs.Math.Arith.{mod-mul}
 use Rattle.std.proofs.lemmas.Bool.Decides.{nat_tests}
-use Rattle.std.proofs.lemmas.Bool.{cases_lt}
-use Rattle.std.proofs.lemmas.List.{get_or-take, get_or-drop, take_all}
+use Rattle.std.proofs.lemmas.Bool.{cases_eq, cases_lt}
+use Rattle.std.proofs.lemmas.List.{get_or-take, get_or-drop, get_or-set_same, get_or-set_other, take_all}
 use Rattle.bits_law.specs.Bitwise.{bitwise, and_not}
 use Rattle.bits_law.specs.Keys.{answers}
-use Rattle.std.specs.Prelude.{bit_and}
-use Rattle.std.specs.Int.{bit_not, w64}
+use Rattle.std.specs.Prelude.{bit_or}
 use Rattle.std.proofs.lemmas.Nat.Bits.{bit_at_ones, bit_at_ones_above, ones_shr}
 use Rattle.bits_law.specs.Numbers.{has_bit, holds}
 use Rattle.bits_law.specs.Contents.{Contents}
 use Rattle.bits_law.specs.declared.slices.Order.{Order}
 use Rattle.bits_law.proofs.AnswerLemmas.{answers-same, answers-and, answers-or, answers-and_not}
 use Rattle.bits_law.proofs.BitwiseLemmas.{length-bitwise}
-use Rattle.bits_law.proofs.WordBits.{bit-none, bit-and, bit-not}
+use Rattle.bits_law.proofs.WordBits.{bit-none, bit-all, bit-or}
 use Rattle.digit_index.specs.declared.coding.Coding.{Coding}
 use Rattle.digit_index.specs.declared.coding.Coding.TheVariants.{Equality, Range}
 use Rattle.digit_index.specs.Digits.{AreBases, product, columns_of, is_coded, width, digit_bit, Holds, HoldsDigit}
@@ -387,18 +386,101 @@ abbrev pub cond_of : Coding → ℕ → ℕ → ℕ
 cond_of Equality one all = one
 cond_of Range one all = all
 
-pub between_columns : (coding : Coding) (start from count digit first end j a b : ℕ) → (coding ≡ Equality → digit < count) → first ≡ from + digit → end ≡ (cond_of coding (first + 1) (from + count)) → b < 2 ^ 64 → j < 64 → has_bit a (63 - j) ≡ leb (first - start) j → has_bit b (63 - j) ≡ leb (end - start) j → has_bit (bit_and a (bit_not w64 b)) (63 - j) ≡ (leb from (start + j) && ltb (start + j) (from + count) && is_coded coding (start + j - from) digit)
-between_columns coding start from count digit first end j a b w f e u l p q =
-    bit-and a (bit_not w64 b) (63 - j)
-    ∙ ap (λ x. x && has_bit (bit_not w64 b) (63 - j)) p
-    ∙ ap (λ x. leb (first - start) j && x) (bit-not b (63 - j) u (omega arith) ∙ ap not q)
-    ∙ ap (λ n. leb (first - start) j && not (leb (n - start) j)) e
-    ∙ ap (λ n. leb (n - start) j && not (leb (cond_of coding (n + 1) (from + count) - start) j)) f
+-- a digit's run of ones
+pub digit_run : (coding : Coding) (from count digit first end column : ℕ) → (coding ≡ Equality → digit < count) → first ≡ from + digit → end ≡ cond_of coding (first + 1) (from + count) → (leb first column && ltb column end) ≡ (leb from column && ltb column (from + count) && is_coded coding (column - from) digit)
+digit_run coding from count digit first end column w f e =
+    ap (λ n. leb first column && ltb column n) e
+    ∙ ap (λ n. leb n column && ltb column (cond_of coding (n + 1) (from + count))) f
     ∙ by_coding coding w
   where
-    by_coding : (coding : Coding) → (coding ≡ Equality → digit < count) → (leb (from + digit - start) j && not (leb (cond_of coding (from + digit + 1) (from + count) - start) j)) ≡ (leb from (start + j) && ltb (start + j) (from + count) && is_coded coding (start + j - from) digit)
+    by_coding : (coding : Coding) → (coding ≡ Equality → digit < count) → (leb (from + digit) column && ltb column (cond_of coding (from + digit + 1) (from + count))) ≡ (leb from column && ltb column (from + count) && is_coded coding (column - from) digit)
     by_coding Equality w = let h : digit < count = w refl in grind (arith, nat_tests)
     by_coding Range w = grind (arith, nat_tests)
+
+-- a run of columns that begins and ends in one word
+pub run_in_word : (old ones : Bool) (at first end part j : ℕ) → j < 64 → at ≡ first / 64 → at ≡ end / 64 → ones ≡ (leb (first % 64) j && ltb j (end % 64)) → (old || (eqb part at && ones)) ≡ (old || (leb first (64 * part + j) && ltb (64 * part + j) end))
+run_in_word old ones at first end part j u a b e =
+    ap (λ x. old || (eqb part at && x)) e ∙ ap (λ x. old || x) same
+  where
+    same : (eqb part at && (leb (first % 64) j && ltb j (end % 64))) ≡ (leb first (64 * part + j) && ltb (64 * part + j) end)
+    same = grind (arith, nat_tests)
+
+-- a run of columns over more words
+pub run_over_words : (old start behind : Bool) (at last first end part j : ℕ) → j < 64 → at ≡ first / 64 → last ≡ end / 64 → at < last → start ≡ leb (first % 64) j → behind ≡ ltb j (end % 64) → (((old || (eqb part at && start)) || (leb (at + 1) part && ltb part last)) || (eqb part last && behind)) ≡ (old || (leb first (64 * part + j) && ltb (64 * part + j) end))
+run_over_words old start behind at last first end part j u a b l e f =
+    ap (λ x. ((old || (eqb part at && x)) || (leb (at + 1) part && ltb part last)) || (eqb part last && behind)) e
+    ∙ ap (λ x. ((old || (eqb part at && leb (first % 64) j)) || (leb (at + 1) part && ltb part last)) || (eqb part last && x)) f
+    ∙ all old
+  where
+    all : (old : Bool) → (((old || (eqb part at && leb (first % 64) j)) || (leb (at + 1) part && ltb part last)) || (eqb part last && ltb j (end % 64))) ≡ (old || (leb first (64 * part + j) && ltb (64 * part + j) end))
+    all true = refl
+    all false = grind (arith, nat_tests)
+
+or_false : (x y : Bool) → y ≡ false → x ≡ (x || y)
+or_false true y e = refl
+or_false false y e = sym e
+
+or_true : (x y : Bool) → y ≡ true → true ≡ (x || y)
+or_true true y e = refl
+or_true false y e = sym e
+
+-- a word with more ones
+pub word_with : (words : List ℕ) (at ones part i : ℕ) → at < length words → has_bit (get_or (set words at (bit_or (get_or words at 0) ones)) part 0) i ≡ (has_bit (get_or words part 0) i || (eqb part at && has_bit ones i))
+word_with words at ones part i l = elim (cases_eq part at) [
+  | inl same ↦
+      let yes : eqb part at ≡ true = grind (arith, nat_tests) in
+      ap (λ n. has_bit (get_or (set words at (bit_or (get_or words at 0) ones)) n 0) i) same
+      ∙ ap (λ n. has_bit n i) (get_or-set_same words at (bit_or (get_or words at 0) ones) 0 l)
+      ∙ bit-or (get_or words at 0) ones i
+      ∙ ap (λ n. has_bit (get_or words n 0) i || has_bit ones i) (sym same)
+      ∙ ap (λ b. has_bit (get_or words part 0) i || (b && has_bit ones i)) (sym yes)
+  | inr other ↦
+      let never : eqb part at ≡ false = grind (arith, nat_tests) in
+      ap (λ n. has_bit n i) (get_or-set_other words at part (bit_or (get_or words at 0) ones) 0 other)
+      ∙ or_false (has_bit (get_or words part 0) i) (eqb part at && has_bit ones i) (ap (λ b. b && has_bit ones i) never)
+]
+
+pub word_without : (words : List ℕ) (at part : ℕ) (one : Bool) (i : ℕ) → part < length words → length words ≤ at → has_bit (get_or words part 0) i ≡ (has_bit (get_or words part 0) i || (eqb part at && one))
+word_without words at part one i l past =
+    let never : eqb part at ≡ false = grind (arith, nat_tests) in
+    or_false (has_bit (get_or words part 0) i) (eqb part at && one) (ap (λ b. b && one) never)
+
+-- full words
+pub none_filled : (old : Bool) (from k : ℕ) → old ≡ (old || (leb from k && ltb k from))
+none_filled old from k = or_false old (leb from k && ltb k from) (grind (arith, nat_tests))
+
+pub one_filled : (words : List ℕ) (from part k i : ℕ) (old : Bool) → k < length words → i < 64 → from ≤ part → has_bit (get_or words k 0) i ≡ (old || (leb from k && ltb k part)) → has_bit (get_or (set words part (2 ^ 64 - 1)) k 0) i ≡ (old || (leb from k && ltb k (part + 1)))
+one_filled words from part k i old l u f e = elim (cases_eq k part) [
+  | inl same ↦
+      let yes : (leb from k && ltb k (part + 1)) ≡ true = grind (arith, nat_tests) in
+      ap (λ n. has_bit (get_or (set words part (2 ^ 64 - 1)) n 0) i) same
+      ∙ ap (λ n. has_bit n i) (get_or-set_same words part (2 ^ 64 - 1) 0 (omega (arith, l, same)))
+      ∙ bit-all i u
+      ∙ or_true old (leb from k && ltb k (part + 1)) yes
+  | inr other ↦
+      let even : (leb from k && ltb k part) ≡ (leb from k && ltb k (part + 1)) = grind (arith, nat_tests) in
+      ap (λ n. has_bit n i) (get_or-set_other words part k (2 ^ 64 - 1) 0 other) ∙ e ∙ ap (λ b. old || b) even
+]
+
+pub filled_to : (from to part long k most : ℕ) → k < long → most ≡ min long to → most ≤ part → part ≤ max from most → (leb from k && ltb k part) ≡ (leb from k && ltb k to)
+filled_to from to part long k most l e least up = elim (cases_lt k from) [
+  | inl before ↦
+      let never : leb from k ≡ false = grind (arith, nat_tests) in
+      ap (λ b. b && ltb k part) never ∙ sym (ap (λ b. b && ltb k to) never)
+  | inr behind ↦
+      ap (λ b. leb from k && b) (elim (cases_lt k to) [
+        | inl inside ↦
+            let h : k < part = omega (arith, l, e, least, inside) in
+            let yes : ltb k part ≡ true = grind (arith, nat_tests) in
+            let also : ltb k to ≡ true = grind (arith, nat_tests) in
+            yes ∙ sym also
+        | inr past ↦
+            let h : part ≤ k = omega (arith, e, up, past, behind) in
+            let never : ltb k part ≡ false = grind (arith, nat_tests) in
+            let nor : ltb k to ≡ false = grind (arith, nat_tests) in
+            never ∙ sym nor
+      ])
+]
 
 pub digit_bit-past : (coding : Coding) (bases : List ℕ) (j key : ℕ) → width coding bases ≤ j → digit_bit coding bases j key ≡ false
 digit_bit-past coding [] j key l = refl
@@ -407,21 +489,6 @@ digit_bit-past coding (b ∷ bs) j key l =
   where
     there : ltb j (columns_of coding b) ≡ false → digit_bit coding (b ∷ bs) j key ≡ digit_bit coding bs (j - columns_of coding b) (key / b)
     there later = rw later refl
-
--- the columns before a digit's run of ones and behind it
-pub outside_columns : (coding : Coding) (from count digit first end column : ℕ) → first ≡ from + digit → end ≡ cond_of coding (first + 1) (from + count) → (column < first) ⊎ (end ≤ column) → (leb from column && ltb column (from + count) && is_coded coding (column - from) digit) ≡ false
-outside_columns coding from count digit first end column f e out =
-    by_coding coding (subst (λ n. (column < n) ⊎ (cond_of coding (n + 1) (from + count) ≤ column)) f (subst (λ n. (column < first) ⊎ (n ≤ column)) e out))
-  where
-    by_coding : (coding : Coding) → (column < from + digit) ⊎ (cond_of coding (from + digit + 1) (from + count) ≤ column) → (leb from column && ltb column (from + count) && is_coded coding (column - from) digit) ≡ false
-    by_coding Equality (inl l) = grind (arith, nat_tests)
-    by_coding Equality (inr l) = grind (arith, nat_tests)
-    by_coding Range (inl l) = grind (arith, nat_tests)
-    by_coding Range (inr l) = grind (arith, nat_tests)
-
-pub or_false : (x y : Bool) → y ≡ false → x ≡ (x || y)
-or_false true y e = refl
-or_false false y e = sym e
 
 -- the columns of one digit more
 pub word_more : (coding : Coding) (bases : List ℕ) (k key from rest column : ℕ) (old more : Bool) → k < length bases → from ≡ width coding (take k bases) → rest ≡ key / product (take k bases) → old ≡ (ltb column from && digit_bit coding bases column key) → more ≡ (leb from column && ltb column (from + columns_of coding (get_or bases k 0)) && is_coded coding (column - from) (rest % get_or bases k 0)) → (old || more) ≡ (ltb column (from + columns_of coding (get_or bases k 0)) && digit_bit coding bases column key)

@@ -1,4 +1,4 @@
-ghost use Rattle.std.specs.Prelude.{◌≡◌, ℕ, ◌+◌, ◌-◌, ◌<◌, ◌≤◌, ◌*◌, ◌^◌, ◌&&◌, ◌||◌, length, get_or, nat_le, nat_lt};
+ghost use Rattle.std.specs.Prelude.{◌≡◌, ℕ, ◌+◌, ◌-◌, ◌<◌, ◌≤◌, ◌*◌, ◌^◌, ◌&&◌, ◌||◌, length, get_or, nat_eq, nat_le, nat_lt};
 ghost use Rattle.bits_law.specs.Numbers.{has_bit};
 ghost use Rattle.digit_index.specs.declared.coding.Coding.TheVariants.{Equality};
 ghost use Rattle.digit_index.specs.Digits.{AreBases, columns_of, is_coded, width, digit_bit};
@@ -73,6 +73,54 @@ fn ones_from(at: usize) -> u64
     if at < 64 { u64::MAX >> at } else { 0 }
 }
 
+/// The columns before `at` among 64, the first column's bit highest.
+fn ones_before(at: usize) -> u64
+    ensures { (j : ℕ) → j < 64 → has_bit result (63 - j) ≡ nat_lt j at }
+{
+    !ones_from(at)
+}
+
+/// Sets bits of the word at `at`, if there is one.
+fn add_ones(words: &mut [u64], at: usize, ones: u64)
+    ensures long { length words.new ≡ length words.old }
+    ensures bits { (part i : ℕ) → part < length words.old → has_bit (get_or words.new part 0) i ≡ (has_bit (get_or words.old part 0) i || (nat_eq part at && has_bit ones i)) }
+{
+    if at < words.len() {
+        words[at] |= ones;
+    }
+}
+
+/// Sets all bits of the words from `from` on and before `to`.
+fn fill_words(words: &mut [u64], from: usize, to: usize)
+    ensures long { length words.new ≡ length words.old }
+    ensures bits { (part i : ℕ) → part < length words.old → i < 64 → has_bit (get_or words.new part 0) i ≡ (has_bit (get_or words.old part 0) i || (nat_le from part && nat_lt part to)) }
+{
+    for part in from..words.len().min(to) {
+        words[part] = u64::MAX;
+    }
+}
+
+/// Sets the bits of the columns from `first` on and before `end` in words of 64 columns, the first column's bit highest.
+fn set_columns(words: &mut [u64], first: usize, end: usize)
+    ensures long { length words.new ≡ length words.old }
+    ensures bits { (part j : ℕ) → part < length words.old → j < 64 → has_bit (get_or words.new part 0) (63 - j) ≡ (has_bit (get_or words.old part 0) (63 - j) || (nat_le first (64 * part + j) && nat_lt (64 * part + j) end)) }
+{
+    if end <= first {
+        return;
+    }
+    let at = first / 64;
+    let last = end / 64;
+    let ones = ones_from(first % 64);
+    let more = ones_before(end % 64);
+    if at == last {
+        add_ones(words, at, ones & more);
+        return;
+    }
+    add_ones(words, at, ones);
+    fill_words(words, at + 1, last);
+    add_ones(words, last, more);
+}
+
 /// Sets the bits of a digit's columns in words of 64 columns, the first column's bit highest. The digit has `count`
 /// columns from `from` on.
 fn add_digit(words: &mut [u64], coding: Coding, from: usize, count: usize, digit: usize)
@@ -88,11 +136,7 @@ fn add_digit(words: &mut [u64], coding: Coding, from: usize, count: usize, digit
         Coding::Equality => first + 1,
         Coding::Range => from + count,
     };
-    for part in first / 64..words.len().min((end + 63) / 64) {
-        let start = 64 * part;
-        words[part] |= ones_from(first.saturating_sub(start))
-            & !ones_from(end.saturating_sub(start));
-    }
+    set_columns(words, first, end);
 }
 
 /// Makes `words` the bits of all digits' columns, 64 in each word, the first column's bit highest.

@@ -1,5 +1,5 @@
 //! Made rows of connections, put into an index of each column, and asked.
-ghost use Rattle.std.specs.Prelude.{◌≡◌, ◌∷◌, []};
+ghost use Rattle.std.specs.Prelude.{◌≡◌, ◌≤◌, ◌∷◌, [], length};
 ghost use Rattle.digit_index.specs.declared.coding.Coding.TheVariants.{Equality, Range};
 
 use address_index::AddrIndex;
@@ -40,20 +40,23 @@ pub struct Plan {
 
 /// A text of at most 18 bytes.
 #[derive(Clone, Copy)]
-struct Text {
+pub struct Text {
     bytes: [u8; 18],
     length: usize,
 }
 
 impl Text {
-    fn as_slice(&self) -> &[u8] {
+    /// The bytes.
+    pub fn as_slice(&self) -> &[u8]
+        ensures { length result.now ≤ 18 }
+    {
         &self.bytes[..self.length.min(18)]
     }
 }
 
 /// What a row has in a column.
 #[derive(Clone, Copy)]
-enum Key {
+pub enum Key {
     Unset,
     Number(u64),
     Text(Text),
@@ -133,7 +136,7 @@ fn word_of(column: usize, kind: u64) -> Text {
 
 /// The key of a row. The columns are those of a connection log: a time, an identity, two ends of an address and a port
 /// each, and so on.
-fn cell(column: usize, row: u64) -> Key {
+pub fn cell(column: usize, row: u64) -> Key {
     let value = mixed(column, row);
     let kind = mixed(99, row) % 5;
     match column {

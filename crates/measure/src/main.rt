@@ -5,12 +5,14 @@ mod batches;
 mod bitmaps;
 mod indexes;
 mod packets;
+mod parts;
 mod stores;
 mod turns;
 
 use bitmaps::Spent;
 use bits_law::Order;
 use indexes::{Plan, Work};
+use parts::Question;
 use runs_bitmap::RunsBitmap;
 use std::alloc::Global;
 use std::process::ExitCode;
@@ -18,7 +20,7 @@ use std::{env, io};
 use word_bitmap::WordBitmap;
 
 const USAGE: &str =
-    "measure turns THREADS TURNS, decode PACKETS, bitmaps BITS ONE_IN, batches ROWS ENCODES UNPACKS, indexes WORK RELATION COLUMN END ROWS PART TIMES, store BATCHES QUERIES";
+    "measure turns THREADS TURNS, decode PACKETS, bitmaps BITS ONE_IN, batches ROWS ENCODES UNPACKS, indexes WORK RELATION COLUMN END ROWS PART TIMES, parts WORK GROUPS TIMES, store BATCHES QUERIES";
 
 fn main(rt: HostRuntime) -> anyhow::Result<ExitCode> {
     let mut words = env::args(&rt)?;
@@ -74,8 +76,39 @@ fn main(rt: HostRuntime) -> anyhow::Result<ExitCode> {
     if what == Some("indexes") && measured_indexes(&rt, &mut words)? {
         return Ok(ExitCode::SUCCESS);
     }
+    if what == Some("parts") && measured_parts(&rt, &mut words)? {
+        return Ok(ExitCode::SUCCESS);
+    }
     println!(rt; "usage: {USAGE}")?;
     Ok(ExitCode::from(1))
+}
+
+// The work on parts that the words name, done, with its number told; or false where they name none.
+fn measured_parts(rt: &HostRuntime, words: &mut env::Args<Global>) -> anyhow::Result<bool> {
+    let work = words.next().and_then(|word| work_on_parts(word.as_str()));
+    let groups = words.next().and_then(|word| word.parse().ok());
+    let times = words.next().and_then(|word| word.parse().ok());
+    let (Some(work), Some(groups), Some(times)) = (work, groups, times) else {
+        return Ok(false);
+    };
+    let rows = parts::measure(rt.alloc(), work, groups, times)?;
+    println!(rt; "rows {rows}")?;
+    Ok(true)
+}
+
+// The work on parts that a word names.
+fn work_on_parts(word: &str) -> Option<parts::Work> {
+    Some(match word {
+        "make" => parts::Work::Make,
+        "build" => parts::Work::Build,
+        "merge" => parts::Work::Merge,
+        "subnet" => parts::Work::Ask(Question::Subnet),
+        "order" => parts::Work::Ask(Question::Order),
+        "port-of-five" => parts::Work::Ask(Question::PortOfFive),
+        "port-of-many" => parts::Work::Ask(Question::PortOfMany),
+        "rare-text" => parts::Work::Ask(Question::RareText),
+        _ => return None,
+    })
 }
 
 // The work on indexes that the words name, done, with a line for each column; or false where they name none.
