@@ -1,0 +1,4 @@
+pub mod CacheLemmas
+pub mod RowLemmas
+pub mod TakenLemmas
+pub mod WalkLemmas
