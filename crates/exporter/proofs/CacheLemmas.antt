@@ -107,3 +107,16 @@ agree_more held h c there one agree k d at =
 
 pub agree_at : (held : List Held) (h : Held) (c : Caching) → Contains held h → AgreesWith held c → Agrees h.no h.packed.content c
 agree_at held h c there agree = subst (λ (g : Held). Agrees g.no g.packed.content c) there.2 (agree there.0 h there.1)
+
+-- The same of a cache that was asked for a batch by the number and the bytes that it was handed.
+pub only_asked : (held : List Held) (h : Held) (n : ℕ) (y : Content) (old new : Caching) → Contains held h → n ≡ h.no → y ≡ h.packed.content
+    → new ≡ after_ask n y old → KeepsOnly held old new
+only_asked held h n y old new there number content e =
+    subst (λ (c : Caching). KeepsOnly held old c) (sym (e ∙ ap (λ (i : ℕ). after_ask i y old) number ∙ ap (λ (x : Content). after_ask h.no x old) content))
+    (only_more held h old old there (only_none held old))
+
+pub agree_asked : (held : List Held) (h : Held) (n : ℕ) (y : Content) (old new : Caching) → Contains held h → AreNumbered held → n ≡ h.no → y ≡ h.packed.content
+    → new ≡ after_ask n y old → AgreesWith held old → AgreesWith held new
+agree_asked held h n y old new there numbered number content e agree =
+    subst (λ (c : Caching). AgreesWith held c) (sym (e ∙ ap (λ (i : ℕ). after_ask i y old) number ∙ ap (λ (x : Content). after_ask h.no x old) content))
+    (agree_more held h old there numbered agree)

@@ -7,7 +7,8 @@ use Rattle.std.proofs.lemmas.List.Sums.{count_by-le-length, length-filter, sum_b
 use Rattle.std.proofs.lemmas.Option.{get_or_from_slice_get, slice_get_within}
 use Rattle.query_meaning.specs.declared.expr.Expr.{Expr, roll-Expr}
 use Rattle.query_meaning.specs.declared.expr.Expr.TheOpen as level
-use Rattle.query_meaning.specs.Meaning.{holds}
+use Rattle.query_meaning.specs.declared.expr.Expr.TheFolds.{fold-roll-Expr}
+use Rattle.query_meaning.specs.Meaning.{level_holds}
 use Rattle.event_batch.specs.Contents.{Content, Spelled}
 use Rattle.event_history.specs.declared.entry.Entry.{Entry}
 use Rattle.event_history.specs.declared.entry.Limits.{Limits}
@@ -92,7 +93,7 @@ everything = roll-Expr (level.And [])
 
 all_match : (e : Event) → matches everything e ≡ true
 unfolding everything matches
-all_match e = refl
+all_match e = fold-roll-Expr Bool (level_holds e.heading e.row) (level.And [])
 
 pass_all : (test : Event → Bool) (ys : List (ℕ × Event)) → ((e : Event) → test e ≡ true) → filter (λ (y : ℕ × Event). test y.1) ys ≡ ys
 pass_all test [] all = refl

@@ -24,6 +24,17 @@ gathered tally cache steps = record { found = tally.found; checked = tally.check
 abbrev pub capped : ℕ → ℕ
 capped n = min n (2 ^ 64 - 1)
 
+-- a batch was asked of the cache
+abbrev pub asked : Held → Gathered → Gathered
+asked h g = record {
+  found = g.found;
+  checked = g.checked;
+  touched = capped (g.touched + 1);
+  loads = capped (g.loads + decodings h.no g.cache);
+  cache = after_ask h.no h.packed.content g.cache;
+  steps = g.steps + decodings h.no g.cache;
+}
+
 -- what a batch has: whether it is read, how many of its events are looked at, and which match
 pub record Reading : Type 0 where
   pub touched : Bool
