@@ -1,5 +1,5 @@
 -- What an ask makes of a cache, by what it makes of the entries.
-use Rattle.std.proofs.Common.{◌≡◌, ℕ, zero, suc, ◌+◌, ◌-◌, ◌<◌, ◌≤◌, cond, List, [], ◌∷◌, map, take, length, nat_eq, Option, None, Some, is_some, IfSome, option_map, refl, ap, sym, ◌∙◌, subst, arith}
+use Rattle.std.proofs.Common.{◌≡◌, ℕ, zero, suc, ◌+◌, ◌-◌, ◌<◌, ◌≤◌, cond, List, [], ◌∷◌, map, take, length, nat_eq, Option, None, Some, is_some, IfSome, option_map, refl, ap, sym, ◌∙◌, subst, arith, Bor}
 use Rattle.std.specs.Arc.{arc_value}
 use Rattle.std.specs.List.{IsDistinct, take-map}
 use Rattle.std.specs.Option.{option_map_or}
@@ -14,7 +14,7 @@ use Rattle.archive_cache.specs.Caches.{Kept, Caching, IsCache, kept_as, Agrees, 
 use Rattle.archive_cache.specs.Contents.{kept_of, caching_of}
 use Rattle.archive_cache.proofs.EntryLemmas.{keys_told, length_told, remove_told, found_entry, absent_entry, absent_removed, found_removed}
 
-abbrev Shared : Type 0
+abbrev pub Shared : Type 0
 Shared = Arc Batch Global
 
 abbrev said : Shared → Content
@@ -51,6 +51,18 @@ pub found_agrees : (c : LruCache ℕ Shared) (n : ℕ) (x : Content) (b : Shared
 found_agrees c n x b e agrees =
     let kept = kept_as_found c n (Some b) e in
     subst (λ (o : Option Content). IfSome o (λ content. content ≡ x)) kept agrees
+
+-- a batch is kept where a look-up finds it
+pub copied_some : (o : Option (Bor Shared)) → is_some o ≡ is_some (option_map (λ (x : Bor Shared). x.now) o)
+copied_some None = refl
+copied_some (Some x) = refl
+
+kept_by : (c : LruCache ℕ Shared) (n : ℕ) (o : Option Shared) → lookup (nat_eq n) c.entries ≡ o → is_some o ≡ is_some (kept_as n (caching_of c))
+kept_by c n None e = sym (ap (λ (x : Option Content). is_some x) (kept_as_found c n None e))
+kept_by c n (Some b) e = sym (ap (λ (x : Option Content). is_some x) (kept_as_found c n (Some b) e))
+
+pub kept_where : (c : LruCache ℕ Shared) (n : ℕ) → is_some (lookup (nat_eq n) c.entries) ≡ is_some (kept_as n (caching_of c))
+kept_where c n = kept_by c n (lookup (nat_eq n) c.entries) refl
 
 take_whole : {X : Type 0} (n : ℕ) (xs : List X) → length xs ≤ n → take n xs ≡ xs
 take_whole zero [] h = refl

@@ -1,8 +1,8 @@
 //! The cache.
-ghost use Rattle.std.specs.Prelude.{◌≡◌, ◌+◌, ◌≤◌, [], length, IfOk, OnOk, OnErr};
+ghost use Rattle.std.specs.Prelude.{◌≡◌, ◌+◌, ◌≤◌, [], is_some, length, IfOk, OnOk, OnErr};
 ghost use Rattle.std.specs.Arc.{arc_value};
 ghost use Rattle.event_batch.specs.Contents.{content_of};
-ghost use Rattle.archive_cache.specs.Caches.{IsCache, Agrees, after_ask, decodings};
+ghost use Rattle.archive_cache.specs.Caches.{IsCache, Agrees, after_ask, decodings, kept_as};
 
 use event_batch::{Batch, Packed, Steps, unpack};
 use lru::LruCache;
@@ -47,6 +47,13 @@ impl Cache {
         ensures sound { IsCache self.now }
     {
         self.batches.len()
+    }
+
+    /// Whether a batch is kept.
+    pub fn keeps(&self, number: u64) -> bool
+        ensures { result ≡ is_some (kept_as number self.now) }
+    {
+        self.batches.peek(&number).is_some()
     }
 
     /// The batch of this number, whose bytes are `packed`. A batch that is kept is answered as it is; another is decoded,

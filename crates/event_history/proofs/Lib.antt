@@ -1,4 +1,5 @@
 pub mod AnswerLemmas
+pub mod CoverLemmas
 pub mod GrowthLemmas
 mod OnceLemmas
 pub mod SnapshotLemmas

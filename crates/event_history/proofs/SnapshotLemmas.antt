@@ -56,7 +56,7 @@ out_within from to id x out =
       | inr h ↦ before_it from to id x h.1
     ]
 
-not_lt : (a b : ℕ) → nat_lt a b ≡ false → b ≤ a
+pub not_lt : (a b : ℕ) → nat_lt a b ≡ false → b ≤ a
 not_lt a b h = grind (arith, nat_tests)
 
 -- The numbered events of a range are those of all whose ids lie in it.

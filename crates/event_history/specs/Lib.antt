@@ -1,4 +1,5 @@
 pub mod Choices
+pub mod Covers
 pub mod Delivered
 pub mod Events
 pub mod Histories

@@ -2,6 +2,7 @@
 ghost use Rattle.std.specs.Prelude.{ℕ, List};
 ghost use Rattle.event_history.specs.declared.entry.Entry.{Entry};
 ghost use Rattle.event_history.specs.declared.entry.Limits.{Limits};
+ghost use Rattle.event_history.specs.Covers.{PartsCover};
 ghost use Rattle.event_history.specs.Laws.{DeliversExactly, TellsOnce, BatchesAnswer, Grows};
 
 /// The law of telling: whatever was done in what order, what a query was told are the matching events of its past part up
@@ -19,6 +20,12 @@ pub fn each_is_told_once()
 /// The law of snapshots: the matching events of a range are those of the batches that reach into it.
 pub fn batches_answer()
     ensures { (past : List Entry) → BatchesAnswer past }
+{}
+
+/// The law of parts: whatever groups are sealed, each batch with an event in a range stands in one of the parts of that
+/// range, both in ascending order.
+pub fn parts_cover()
+    ensures { (past : List Entry) → PartsCover past }
 {}
 
 /// The law of longer histories: they keep batches, ids, registrations, and what was indexed, sealed or ended.

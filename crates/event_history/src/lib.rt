@@ -8,4 +8,4 @@ mod entry;
 mod laws;
 
 pub use entry::{Deed, Entry, Limits, Mode, SharedExpr};
-pub use laws::{batches_answer, delivered_exactly, each_is_told_once, histories_grow};
+pub use laws::{batches_answer, delivered_exactly, each_is_told_once, histories_grow, parts_cover};

@@ -1,9 +1,8 @@
 -- Which batches and groups have events in a range.
-use Rattle.std.proofs.Common.{◌≡◌, ℕ, zero, suc, ◌+◌, ◌*◌, ◌/◌, ◌<◌, ◌≤◌, Bool, true, false, not, ◌&&◌, if◌then◌else◌, List, [], ◌∷◌, ◌++◌, Option, None, Some, take, sum_by, max, min, refl, ap, sym, ◌∙◌, arith, inl, inr, add-one}
+use Rattle.std.proofs.Common.{◌≡◌, ℕ, zero, suc, ◌+◌, ◌*◌, ◌/◌, ◌<◌, ◌≤◌, Bool, true, false, not, ◌&&◌, if◌then◌else◌, List, [], ◌++◌, Option, None, Some, sum_by, max, min, refl, ap, sym, ◌∙◌, arith, inl, inr, add-one}
 use Rattle.std.specs.Option.{option_or}
 use Rattle.std.proofs.lemmas.Bool.Decides.{eqb_tells, leb_tells}
 use Rattle.std.proofs.lemmas.List.{append_assoc, append-nil, take_all}
-use Rattle.std.proofs.lemmas.List.Sums.{sum_by-append}
 use Rattle.std.proofs.Math.Nat.{div-mul-le_self, lt-div-mul-add, mul-le-mul_right, mul-suc, suc-mul}
 use Rattle.event_batch.specs.Contents.{Spelled}
 use Rattle.event_history.specs.declared.entry.Entry.{Entry}
@@ -11,6 +10,7 @@ use Rattle.event_history.specs.Choices.{again_of, holds_up, least, reaches, some
 use Rattle.event_history.specs.Histories.{accepted, batch_count, first_of, is_indexed, is_sealed, row_count}
 use Rattle.event_history.specs.Pieces.{Held, Piece, group_parts, group_piece, group_reaches, held_at, held_upto, one_if, parts_of, parts_upto, piece_in, reached}
 use Rattle.event_history.proofs.AnswerLemmas.{lt_false, lt_of, lt_true}
+use Rattle.event_history.proofs.CoverLemmas.{first_up}
 use Rattle.event_history.proofs.TellingLemmas.{least_passes}
 use Rattle.event_history.proofs.SnapshotLemmas.{batches_counted}
 use Rattle.history_core.specs.Snapshots.{spans}
@@ -19,17 +19,6 @@ use Rattle.history_core.proofs.LegalLemmas.{least_is, least_none}
 and_no : (x : Bool) → (x && false) ≡ false
 and_no true = refl
 and_no false = refl
-
--- Ids rise with the batches.
-sums_up : (xs : List Spelled) (b c : ℕ) → b ≤ c → sum_by row_count (take b xs) ≤ sum_by row_count (take c xs)
-sums_up xs zero c h = omega arith
-sums_up xs (suc b) zero h = absurd (omega (arith, h))
-sums_up [] (suc b) (suc c) h = omega arith
-sums_up (x ∷ xs) (suc b) (suc c) h =
-    omega (arith, sums_up xs b c (omega (arith, h)), sum_by-append row_count (x ∷ []) (take b xs), sum_by-append row_count (x ∷ []) (take c xs))
-
-pub first_up : (before : List Entry) (b c : ℕ) → b ≤ c → first_of b before ≤ first_of c before
-first_up before b c h = sums_up (accepted before) b c h
 
 pub first_all : (before : List Entry) (b : ℕ) → batch_count before ≤ b → first_of b before ≡ sum_by row_count (accepted before)
 first_all before b h = ap (λ (xs : List Spelled). sum_by row_count xs) (take_all b (accepted before) (omega (arith, h, batches_counted before)))

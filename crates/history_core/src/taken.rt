@@ -1,7 +1,7 @@
 //! What a take hands out.
 ghost use Rattle.std.specs.Prelude.{◌≡◌, map};
 ghost use Rattle.std.specs.Option.{option_map, option_or};
-ghost use Rattle.history_core.specs.Snapshots.{packed_of};
+ghost use Rattle.history_core.specs.Snapshots.{WasTaken, packed_of};
 ghost use Rattle.partition.specs.Parts.{piece_of};
 
 use crate::session::Session;
@@ -64,7 +64,7 @@ pub(crate) struct Snapshot {
 
 impl Model for Snapshot {
     ghost use Rattle.std.specs.Prelude.{map};
-    ghost use Rattle.history_core.specs.Snapshots.{Snapshot as Seen};
+    ghost use Rattle.history_core.specs.Snapshots.{Snapshot as Seen, WasTaken, snapshot_of};
     ghost use Rattle.partition.specs.Parts.{piece_of};
     ghost use Rattle.query_meaning.specs.contracts.expr.Expr as e;
     ghost use Rattle.std.specs.Coded.{codes};
@@ -73,19 +73,9 @@ impl Model for Snapshot {
 
     ghost coded = { Prim.hlevel (codes, e.the_row.coded) };
 
-    ghost view = { λ s. record {
-      taking = record {
-        expr = s.expr;
-        past_from = s.past.0;
-        past_to = s.past.1;
-        live_from = s.live.0;
-        live_to = s.live.1;
-        again = s.again;
-      };
-      parts = map piece_of s.parts.items;
-      past_batches = s.past_batches.items;
-      live_batches = s.live_batches.items;
-    } };
+    ghost view = { λ s. snapshot_of s.expr s.past s.live s.again (map piece_of s.parts.items) s.past_batches.items s.live_batches.items };
+
+    ghost invariant = { λ s. WasTaken (snapshot_of s.expr s.past s.live s.again (map piece_of s.parts.items) s.past_batches.items s.live_batches.items) };
 }
 
 impl Snapshot {
@@ -145,9 +135,10 @@ impl Taken {
         self.snapshot.expr.get()
     }
 
-    /// The parts of the past range, in ascending order.
+    /// The parts of the past range, in ascending order. The snapshot is that of a take.
     pub fn parts(&self) -> &[Part]
-        ensures { map piece_of result.now ≡ self.now.snapshot.parts }
+        ensures parts { map piece_of result.now ≡ self.now.snapshot.parts }
+        ensures taken { WasTaken self.now.snapshot }
     {
         self.snapshot.parts.as_slice()
     }

@@ -1,7 +1,7 @@
 use Rattle.std.proofs.Common.{◌+◌, ◌-◌, ◌/◌, ◌<◌, ℕ, length, arith}
 use Rattle.event_history.specs.Histories.{past}
 use Rattle.history_core.specs.Stores.{IsKept}
-use Rattle.history_core.proofs.RangeLemmas.{first_up}
+use Rattle.event_history.proofs.CoverLemmas.{first_up}
 use Rattle.history_core.proofs.store.Store.begins_at.Goals as goal
 
 pub loop-low-preserved-then-index-id : goal.loop-low-preserved-then-index-id

@@ -1,0 +1,5 @@
+pub mod CacheLemmas
+pub mod PageLemmas
+pub mod RowLemmas
+pub mod TakenLemmas
+pub mod WalkLemmas

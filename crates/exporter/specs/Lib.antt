@@ -1,0 +1,7 @@
+pub mod Asks
+pub mod Founds
+pub mod Laws
+pub mod Pages
+pub mod Rows
+pub mod Told
+pub mod Walks

@@ -1,0 +1,8 @@
+//! Pages: what a query is told by a snapshot of its ranges.
+#![tactic(auto)]
+
+mod founds;
+mod rows;
+mod tally;
+
+pub use founds::{Found, Founds};
