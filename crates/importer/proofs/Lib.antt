@@ -1,0 +1,3 @@
+mod CarryLemmas
+pub mod CutLemmas
+pub mod GoingLemmas

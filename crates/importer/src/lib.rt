@@ -1,0 +1,16 @@
+//! The importer: inputs to batches.
+//!
+//! An [`Input`] gives the steps of a source, each row carried: its ports get the transport that its protocol names. An
+//! [`Import`] cuts these steps into batches. Contracts see what is still to come of either by the bytes that its source
+//! still gives, and the source itself.
+#![tactic(auto)]
+
+mod carrying;
+mod ends;
+mod gathered;
+mod input;
+mod log;
+
+pub use carrying::carried;
+pub use ends::{How, ImportEnd, InputFault, SourceEnd};
+pub use input::Input;
