@@ -11,6 +11,7 @@ use Rattle.zeek_log.specs.Table.{LogStep, Head, Line}
 use Rattle.importer.specs.declared.ends.ImportEnd.{ImportEnd}
 use Rattle.importer.specs.Cutting.{Bounds, batch_of, behind, bounds_of, cell_bytes_of, cut, cut_answers, cut_by, is_full, last_piece, part_batches, parts_of, pieces_since, rows_first, steps_behind}
 use Rattle.importer.specs.Ending.{Answers, ahead, only_end}
+use Rattle.importer.specs.Turns.{AreSince}
 
 -- ---- bytes of cells
 
@@ -24,10 +25,6 @@ bytes_more rows row =
     ∙ length-append (cell_bytes_of rows) (row_bytes Second row)
 
 -- ---- pieces
-
--- The rows held are those since the last cut: none of their beginnings is full.
-abbrev pub AreSince : (List (List Cell) → Bool) → List (List Cell) → Type 0
-AreSince full held = (more : List (List Cell)) → pieces_since full [] (held ++ more) ≡ pieces_since full held more
 
 pub none_since : (full : List (List Cell) → Bool) → AreSince full []
 none_since full more = refl

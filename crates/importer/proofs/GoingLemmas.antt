@@ -23,7 +23,7 @@ use Rattle.importer.specs.declared.ends.ImportEnd.{ImportEnd}
 use Rattle.importer.specs.declared.ends.ImportEnd.TheVariants as import
 use Rattle.importer.specs.Carrying.{carried, protocol_place}
 use Rattle.importer.proofs.CarryLemmas.{still_fits}
-use Rattle.importer.specs.Coming.{Standing, Log, Ended, Follow, Anything, Nothing, Lost, MayFollow, IsAfterEnd, IsAfterState, IsKnownBy, IsAt, Leads, Goes, StepsOn, HasFaults, IsReadFaultEnd, IsReadFaultState, fields_told, steps_to_come}
+use Rattle.importer.specs.Coming.{Standing, Log, Ended, Follow, Anything, Nothing, Lost, MayFollow, IsAfterEnd, IsAfterState, IsKnownBy, IsAt, Leads, Goes, StepsOn, HasFaults, IsReadFault, IsReadFaultEnd, IsReadFaultState, fields_told, heading_at, steps_to_come}
 use Rattle.importer.specs.Logs.{CarriesBy}
 use Rattle.importer.specs.Ending.{Answers, ahead, end_of_log, only_end}
 use Rattle.importer.specs.Steps.{carried_answers, carried_steps}
@@ -65,7 +65,7 @@ goes_join a b c come_a come_b come_c one two la lb lc before behind may taken is
 
 -- the same seen otherwise
 pub goes_seen : {X Y U V : Type 0} (a b : Standing) (come_a : Come X) (come_b : Come Y) (add : Y → X) (la lb : Option (List ℕ)) (see : X → U) (see_now : Y → V) (plus : V → U)
-    → ((y : Y) → see (add y) ≡ plus (see_now y)) → Goes a b come_a come_b add la lb
+    → ((more : List ℕ) (stop : Stop) → see (add (come_b more stop)) ≡ plus (see_now (come_b more stop))) → Goes a b come_a come_b add la lb
     → Goes a b (λ more stop. see (come_a more stop)) (λ more stop. see_now (come_b more stop)) plus la lb
 goes_seen a b come_a come_b add la lb see see_now plus same goes may taken is_at =
     let p = goes may taken is_at in
@@ -75,7 +75,7 @@ goes_seen a b come_a come_b add la lb see see_now plus same goes may taken is_at
       follow = p.follow;
       at = p.at;
       follows = p.follows;
-      is = λ more stop ok. ap see (p.is more stop ok) ∙ same (come_b more stop);
+      is = λ more stop ok. ap see (p.is more stop ok) ∙ same more stop;
     }
 
 -- memory was wanting: nothing is said of what was to come
@@ -238,7 +238,7 @@ pub log_head : (old new : Reading) (before now : Option (List ℕ)) (heading : H
 log_head old new before now heading follows fits =
     goes_seen (Log old) (Log new) (to_come old) (to_come new) (first (Head heading)) before now
     (carried_answers (fields_told (heading_told old.state))) (carried_answers (fields_told (heading_told new.state))) (ahead (Head heading ∷ []))
-    (λ y. head_seen (fields_told (heading_told old.state)) heading (heading_told new.state) y fits)
+    (λ more stop. head_seen (fields_told (heading_told old.state)) heading (heading_told new.state) (to_come new more stop) fits)
     (reader_step old.state old.held old.taken old.kept new before now (Head heading) (step_open (heading_told old.state) new.state (Head heading) fits) follows)
 
 pub log_line : (old new : Reading) (before now : Option (List ℕ)) (row : List Cell) → Follows old.state old new before now (Ok (Line row))
@@ -248,7 +248,7 @@ log_line old new before now row follows fits =
     goes_seen (Log old) (Log new) (to_come old) (to_come new) (first (Line row)) before now
     (carried_answers (fields_told (heading_told old.state))) (carried_answers (fields_told (heading_told new.state)))
     (ahead (Line (carried (fields_told (heading_told old.state)) row) ∷ []))
-    (λ y. line_seen (heading_told old.state) (heading_told new.state) row y fits.1)
+    (λ more stop. line_seen (heading_told old.state) (heading_told new.state) row (to_come new more stop) fits.1)
     (reader_step old.state old.held old.taken old.kept new before now (Line row) (step_open (heading_told old.state) new.state (Line row) fits) follows)
 
 pub log_end : (old new : Reading) (before now : Option (List ℕ)) (e : ZeekEnd) → Follows old.state old new before now (Err e)
@@ -256,7 +256,7 @@ pub log_end : (old new : Reading) (before now : Option (List ℕ)) (e : ZeekEnd)
 log_end old new before now e follows =
     goes_seen (Log old) (Ended (end_of_log e)) (to_come old) (λ more stop. ended e) (λ (s : Steps). s) before now
     (carried_answers (fields_told (heading_told old.state))) (carried_answers (fields_told (heading_told old.state))) (ahead [])
-    (λ y. refl) (reader_end old.state old.held old.taken old.kept new before now e follows)
+    (λ more stop. refl) (reader_end old.state old.held old.taken old.kept new before now e follows)
 
 -- ---- faults
 
@@ -370,3 +370,10 @@ pub stay_at : (at : Standing) (end : Option ImportEnd) (left left_now : Option (
 stay_at at end left left_now is same =
     subst (λ (l : Option (List ℕ)). StepsOn at (Ended end) left l []) (sym same)
     (subst (λ (s : Standing). StepsOn s (Ended end) left left []) (sym is) (goes_stay (Ended end) (steps_to_come (Ended end)) left))
+
+-- a step was given, so no end is all that is to come
+pub step_no_fault : (before : Option Heading) (new : Standing) (x : LogStep) → StepFits before (heading_at new) x → IsReadFault new → ⊥
+step_no_fault before (Log r) x fits fault = no_fault_open r.state (step_open before r.state x fits) fault
+step_no_fault before (Ended e) (Head heading) fits fault = cc
+step_no_fault None (Ended e) (Line row) fits fault = absurd fits.0
+step_no_fault (Some h) (Ended e) (Line row) fits fault = let never = fits.1 in cc

@@ -1,3 +1,4 @@
 mod CarryLemmas
 pub mod CutLemmas
 pub mod GoingLemmas
+pub mod TurnLemmas

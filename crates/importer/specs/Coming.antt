@@ -146,9 +146,18 @@ abbrev pub end_answer : {X : Type 0} → Option ImportEnd → Result (Option X) 
 end_answer None = Ok None
 end_answer (Some end) = Err end
 
--- where an end was answered nothing else is to come, and before that a log is read
+-- want of memory is all that is to come
+abbrev pub IsLost : Standing → Type 0
+IsLost (Log r) = ⊥
+IsLost (Ended None) = ⊥
+IsLost (Ended (Some Memory)) = Unit {0}
+IsLost (Ended (Some ReadFault)) = ⊥
+IsLost (Ended (Some TooLong)) = ⊥
+IsLost (Ended (Some (Fault fault))) = ⊥
+
+-- where an end was answered nothing else is to come, and where memory was wanting nothing else was answered
 abbrev pub EndsAt : {X : Type 0} → Result (Option X) ImportEnd → Standing → Type 0
-EndsAt (Ok (Some x)) new = Unit {0}
+EndsAt (Ok (Some x)) new = ¬ IsLost new
 EndsAt (Ok None) new = new ≡ Ended None
 EndsAt (Err end) new = new ≡ Ended (Some end)
 

@@ -5,3 +5,4 @@ pub mod Ending
 pub mod Inputs
 pub mod Logs
 pub mod Steps
+pub mod Turns

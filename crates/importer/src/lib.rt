@@ -8,9 +8,11 @@
 mod carrying;
 mod ends;
 mod gathered;
+mod import;
 mod input;
 mod log;
 
 pub use carrying::carried;
 pub use ends::{How, ImportEnd, InputFault, SourceEnd};
+pub use import::Import;
 pub use input::Input;
