@@ -66,7 +66,7 @@ batches source heading pieces = map (batch_of source heading) pieces
 
 cut_behind : (bounds : Bounds) (source : ℕ) (heading : Heading) (held : List (List Cell)) (steps : List LogStep)
     → cut_by bounds source (behind (Some heading) held steps)
-      ≡ batches source heading (pieces_since (is_full bounds) [] (held ++ rows_first steps)) ++ flat_map (part_batches source bounds) (parts_of steps)
+    ≡ batches source heading (pieces_since (is_full bounds) [] (held ++ rows_first steps)) ++ flat_map (part_batches source bounds) (parts_of steps)
 cut_behind bounds source heading held steps = rw (first_behind held steps, parts_behind held steps) refl
 
 -- ---- what comes of a step
@@ -104,7 +104,7 @@ line_cut : (source rows : ℕ) (heading : Heading) (held : List (List Cell)) (ro
 line_cut source rows heading held row steps since closed =
     cut_behind (bounds_of rows) source heading (held ++ row ∷ []) steps
     ∙ ap (λ (t : List (List (List Cell))). batches source heading t ++ flat_map (part_batches source (bounds_of rows)) (parts_of steps))
-      (full_piece (is_full (bounds_of rows)) held row (rows_first steps) since closed)
+    (full_piece (is_full (bounds_of rows)) held row (rows_first steps) since closed)
 
 pub line_closes : (source rows : ℕ) (heading : Heading) (held : List (List Cell)) (row : List Cell) (y : Answers LogStep) → AreSince (is_full (bounds_of rows)) held
     → is_full (bounds_of rows) (held ++ row ∷ []) ≡ true

@@ -2,3 +2,5 @@ mod CarryLemmas
 pub mod CutLemmas
 pub mod GoingLemmas
 pub mod TurnLemmas
+pub mod LawLemmas
+mod Vectors

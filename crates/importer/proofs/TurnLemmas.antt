@@ -123,9 +123,12 @@ line_holds_some n rows h at new held row turn.Goes are fits there below =
       few = grind (arith, nat_tests, parts.1);
       fit = all_more h.fields held row are.fit fits;
     }
-line_holds_some n rows h at new held row (turn.Closes layout) are fits there closes =
-    (layout_fits layout (Some h) (held ++ row ∷ []) closes.1 (all_more h.fields held row are.fit fits),
-    omega (arith, length-append held (row ∷ [])), omega (arith, are.below, length-append held (row ∷ [])), there)
+line_holds_some n rows h at new held row (turn.Closes layout) are fits there closes = (
+  layout_fits layout (Some h) (held ++ row ∷ []) closes.1 (all_more h.fields held row are.fit fits),
+  omega (arith, length-append held (row ∷ [])),
+  omega (arith, are.below, length-append held (row ∷ [])),
+  there,
+)
 line_holds_some n rows h at new held row (turn.Ends end) are fits there never = absurd never
 
 line_holds : (n rows : ℕ) (heading : Option Heading) (at new : Standing) (held held_now : Rows) (row : List Cell) (t : Turn)
@@ -251,9 +254,10 @@ pub end_turn_stays : {S : Type 0} (old : Sourced Importing S) (n rows : ℕ) (he
     → (end : Option ImportEnd) → old.at.standing ≡ Ended end → held ≡ [] → (t ≡ turn.Ends end) × (whole (import_at n rows heading_now input_now.at) input_now.source ≡ old)
 end_turn_stays {S = S} old n rows heading heading_now input input_now held why t seen stays by same end stands empty =
     let at : input.at ≡ Ended end = ap (λ (o : Sourced Importing S). o.at.standing) seen ∙ stands in
-    let again = stays end at in
-    (end_stays t why end heading held by empty (same_answer why end again.0),
-    rw (same empty, again.1) seen)
+    let again = stays end at in (
+      end_stays t why end heading held by empty (same_answer why end again.0),
+      rw (same empty, again.1) seen,
+    )
 
 pub row_fits_columns : (known : Option Layout) (layout : Layout) (row : List Cell) → known ≡ Some layout → RowFits (option_map heading_of known) row → fits_columns layout.columns row ≡ true
 row_fits_columns known layout row is fits =

@@ -6,3 +6,4 @@ pub mod Inputs
 pub mod Logs
 pub mod Steps
 pub mod Turns
+pub mod Laws

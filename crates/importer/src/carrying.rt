@@ -135,10 +135,12 @@ fn carry_cell(alloc: Global, over: Transport, cell: &Cell) -> Result<Cell, Alloc
     ensures { IfOk result (λ new. new ≡ carried_cell over cell.now) }
 {
     match cell {
-        Cell::One(Value::Port {
-            number,
-            over: Transport::Unknown,
-        }) => Ok(Cell::One(Value::Port {
+        Cell::One(
+            Value::Port {
+                number,
+                over: Transport::Unknown,
+            },
+        ) => Ok(Cell::One(Value::Port {
             number: *number,
             over,
         })),

@@ -169,9 +169,7 @@ fn gather(
     ensures row { OnOk result (gathered.new ≡ gathered.old ++ row ∷ []) }
     ensures turn { IfOk result (λ turn. LineTurn turn (option_map heading_of layout.now) rows gathered.new) }
 {
-    let Some(layout) = layout else {
-        unreachable!()
-    };
+    let Some(layout) = layout else { unreachable!() };
     gathered.push(layout, row)?;
     if !gathered.is_full(rows) {
         return Ok(Turn::Goes);

@@ -10,9 +10,15 @@ mod ends;
 mod gathered;
 mod import;
 mod input;
+mod laws;
 mod log;
+#[cfg(test)]
+mod tests;
 
 pub use carrying::carried;
 pub use ends::{How, ImportEnd, InputFault, SourceEnd};
 pub use import::Import;
 pub use input::Input;
+pub use laws::{
+    a_carried_row_is_carried, all_is_given, answers_join, no_row_is_lost, pieces_are_rows,
+};

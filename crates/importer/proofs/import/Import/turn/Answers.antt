@@ -32,7 +32,7 @@ returns-in-Ok-clause-goes g c =
     let new = c.next.new.self.at in
     let now = g.S.Source.left c.next.new.self.source in
     line_turn g.S.Source.left c.args.self.now i.number i.rows (option_map heading_of i.layout) i.input.at new i.input.source now
-    c.args.gathered.now c.gather.new.gathered c.in-Ok-Some-Line.row c.in-Ok.turn c.self.view_is c.requires.held 
+    c.args.gathered.now c.gather.new.gathered c.in-Ok-Some-Line.row c.in-Ok.turn c.self.view_is c.requires.held
     (row_fits_by (option_map heading_of i.layout) i.input.at c.next.new.self.at c.in-Ok-Some-Line.row c.self.invariant.2
     (subst (λ (o : Option Step). FitsSo i.input.at c.next.new.self.at (ok_step o)) (c.in-Ok-Some-Line.field-0-is ∙ ap Some c.in-Ok-Some-Line.field-0-0-is) c.in-Ok-Some-Line.ensures.fits))
     (subst (λ (o : Option Step). GivesOn i.input.at new (g.S.Source.left i.input.source) now (ok_step o)) (c.in-Ok-Some-Line.field-0-is ∙ ap Some c.in-Ok-Some-Line.field-0-0-is) c.in-Ok-Some-Line.ensures.next)
@@ -42,7 +42,7 @@ pub returns-in-Ok-clause-holds : goal.returns-in-Ok-clause-holds
 returns-in-Ok-clause-holds g c =
     let i = c.self.inside in
     line_turn_holds c.args.self.now i.number i.rows (option_map heading_of i.layout) i.input.at c.next.new.self.at i.input.source
-    c.args.gathered.now c.gather.new.gathered c.in-Ok-Some-Line.row c.in-Ok.turn c.self.view_is c.requires.held 
+    c.args.gathered.now c.gather.new.gathered c.in-Ok-Some-Line.row c.in-Ok.turn c.self.view_is c.requires.held
     (row_fits_by (option_map heading_of i.layout) i.input.at c.next.new.self.at c.in-Ok-Some-Line.row c.self.invariant.2
     (subst (λ (o : Option Step). FitsSo i.input.at c.next.new.self.at (ok_step o)) (c.in-Ok-Some-Line.field-0-is ∙ ap Some c.in-Ok-Some-Line.field-0-0-is) c.in-Ok-Some-Line.ensures.fits))
     (subst (λ (o : Option Step). EndsSo c.next.new.self.at (ok_step o)) c.in-Ok-Some-Line.field-0-is c.in-Ok-Some-Line.ensures.ends)
