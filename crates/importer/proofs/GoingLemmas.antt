@@ -1,18 +1,15 @@
 -- How an input goes on.
-use Rattle.std.proofs.Common.{◌≡◌, ◌≢◌, ℕ, ◌+◌, ◌<◌, Bool, true, false, List, [], ◌∷◌, ◌++◌, Option, None, Some, Result, Ok, Err, IfSome, IsSomeAnd, IsTrue, length, refl, ap, sym, ◌∙◌, subst, arith, append_assoc, length-append, inl, inr, ◌⊎◌}
+use Rattle.std.proofs.Common.{◌≡◌, ℕ, ◌+◌, Bool, true, false, List, [], ◌∷◌, ◌++◌, Option, None, Some, Result, Ok, Err, IsSomeAnd, IsTrue, length, refl, ap, sym, ◌∙◌, subst, arith, append_assoc, length-append, inl, inr}
 use Rattle.std.proofs.lemmas.List.{append-nil}
 use Rattle.std.specs.Io.KnownBytes.{prepend_known}
-use Rattle.vast_io.specs.Causes.{Rose}
 use Rattle.vast_value.specs.declared.cell.Cell.{Cell}
 use Rattle.vast_value.specs.declared.layout.Layout.{Layout}
 use Rattle.vast_value.specs.Headings.{Field, Heading, fits_fields, heading_of}
 use Rattle.source_block.specs.declared.stop.Stop.{Stop}
 use Rattle.source_block.specs.declared.stop.Stop.TheVariants.{AtEnd, Failed, AtBound}
-use Rattle.source_block.specs.Taking.{Stops}
 use Rattle.source_block.proofs.TakeLemmas.{prepend_nothing, prepend_twice}
 use Rattle.zeek_log.specs.declared.step.ZeekEnd.{ZeekEnd}
 use Rattle.zeek_log.specs.declared.step.ZeekEnd.TheVariants as end
-use Rattle.zeek_log.specs.Heads.{Told}
 use Rattle.zeek_log.specs.Reader as reader
 use Rattle.zeek_log.specs.Reader.{State, Reads, Last, Ended as EndedState, Reading, to_come, Follows, CountsOf, StepFits, heading_told}
 use Rattle.zeek_log.specs.declared.step.Step.{Step}
@@ -25,8 +22,8 @@ use Rattle.importer.specs.Carrying.{carried, protocol_place}
 use Rattle.importer.proofs.CarryLemmas.{still_fits}
 use Rattle.importer.specs.Coming.{Standing, Log, Ended, Follow, Anything, Nothing, Lost, MayFollow, IsAfterEnd, IsAfterState, IsKnownBy, IsAt, Leads, Goes, StepsOn, HasFaults, IsReadFault, IsReadFaultEnd, IsReadFaultState, fields_told, heading_at, steps_to_come}
 use Rattle.importer.specs.Logs.{CarriesBy}
-use Rattle.importer.specs.Ending.{Answers, ahead, end_of_log, only_end}
-use Rattle.importer.specs.Steps.{carried_answers, carried_steps}
+use Rattle.importer.specs.Ending.{ahead, end_of_log}
+use Rattle.importer.specs.Steps.{carried_answers}
 
 -- ---- any two calls
 

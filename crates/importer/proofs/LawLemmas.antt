@@ -1,5 +1,5 @@
 -- Laws of cutting, and of whole runs of answers.
-use Rattle.std.proofs.Common.{◌≡◌, ℕ, ◌+◌, ◌-◌, ◌<◌, ◌≤◌, Bool, true, false, if◌then◌else◌, List, [], ◌∷◌, ◌++◌, Option, None, Some, zero, suc, length, map, take, refl, ap, sym, ◌∙◌, subst, arith, append_assoc, length-append, nat_le, inl, inr, ◌⊎◌}
+use Rattle.std.proofs.Common.{◌≡◌, ℕ, ◌-◌, ◌<◌, ◌≤◌, Bool, true, false, if◌then◌else◌, List, [], ◌∷◌, ◌++◌, Option, None, Some, zero, suc, length, map, take, refl, ap, sym, ◌∙◌, subst, arith, append_assoc, length-append, nat_le, inl, inr, ◌⊎◌}
 use Rattle.std.proofs.lemmas.Bool.Decides.{nat_tests}
 use Rattle.std.proofs.lemmas.List.{append-nil}
 use Rattle.std.proofs.Math.Seq.{take-append_seam}
@@ -11,7 +11,7 @@ use Rattle.event_batch.specs.Contents.{Content}
 use Rattle.source_block.specs.Holding.{most_bytes}
 use Rattle.source_block.specs.declared.stop.Stop.{Stop}
 use Rattle.source_block.specs.declared.stop.Stop.TheVariants.{AtEnd, Failed, AtBound}
-use Rattle.zeek_log.specs.Steps.{Steps, steps_of, steps_of_source, taken_steps}
+use Rattle.zeek_log.specs.Steps.{Steps, steps_of, taken_steps}
 use Rattle.zeek_log.specs.Table.{LogStep, Head, Line}
 use Rattle.importer.specs.declared.ends.ImportEnd.{ImportEnd}
 use Rattle.importer.specs.declared.ends.ImportEnd.TheVariants.{Fault, ReadFault, TooLong, Memory}

@@ -1,5 +1,5 @@
 -- How an import takes one step.
-use Rattle.std.proofs.Common.{◌≡◌, ◌≢◌, ℕ, ◌+◌, ◌<◌, ◌≤◌, Bool, true, false, ◌&&◌, ◌||◌, if◌then◌else◌, List, [], ◌∷◌, ◌++◌, Option, None, Some, Result, Ok, Err, IfOk, IfSome, IsSomeAnd, IsTrue, length, map, refl, ap, sym, ◌∙◌, subst, arith, length-append, nat_le}
+use Rattle.std.proofs.Common.{◌≡◌, ℕ, ◌≤◌, Bool, true, false, ◌&&◌, ◌||◌, List, [], ◌∷◌, ◌++◌, Option, None, Some, Result, Ok, Err, IfOk, IfSome, IsSomeAnd, IsTrue, length, refl, ap, sym, ◌∙◌, subst, arith, length-append, nat_le}
 use Rattle.std.proofs.lemmas.Bool.Decides.{nat_tests}
 use Rattle.std.specs.List.{list_all}
 use Rattle.vast_value.specs.declared.cell.Cell.{Cell}
@@ -13,7 +13,6 @@ use Rattle.event_batch.specs.Contents.{Content, content_of}
 use Rattle.vast_io.specs.Causes.{Rose}
 use Rattle.event_batch.specs.Sizes.{rows_fit}
 use Rattle.event_batch.proofs.ContentLemmas.{rows_fit_fields}
-use Rattle.source_block.specs.declared.stop.Stop.{Stop}
 use Rattle.zeek_log.specs.declared.step.Step.{Step}
 use Rattle.zeek_log.specs.Reader.{StepFits}
 use Rattle.zeek_log.specs.Steps.{step_of}
@@ -23,8 +22,8 @@ use Rattle.importer.specs.declared.ends.ImportEnd.TheVariants.{Fault, ReadFault,
 use Rattle.importer.specs.declared.import.Turn.{Turn}
 use Rattle.importer.specs.declared.import.Turn.TheVariants as turn
 use Rattle.importer.specs.Coming.{BatchesOn, EndsAt, Ended, Goes, HasFaults, Importing, IsLastLayout, IsLost, IsReadFault, Sourced, Standing, StepsOn, Stays, batches_behind, batches_to_come, end_answer, heading_at, steps_given, steps_to_come}
-use Rattle.importer.specs.Cutting.{Bounds, batch_of, bounds_of, cell_bytes_of, cut_answers, is_full, most_cell_bytes, steps_behind}
-use Rattle.importer.specs.Ending.{Answers, ahead, only_end}
+use Rattle.importer.specs.Cutting.{batch_of, bounds_of, cell_bytes_of, cut_answers, is_full, most_cell_bytes, steps_behind}
+use Rattle.importer.specs.Ending.{Answers, ahead}
 use Rattle.importer.specs.Turns.{AreHeld, AreSince, EndTurn, HeadTurn, HeldFit, IsMemory, LineTurn, RowFits, TurnGoes, TurnGoing, TurnHolds}
 use Rattle.importer.proofs.CutLemmas.{end_closes, head_closes, head_comes, line_closes, line_comes, none_since, nothing_comes, row_since}
 use Rattle.importer.proofs.GoingLemmas.{goes_join, goes_lost, goes_seen, goes_stay, step_no_fault}

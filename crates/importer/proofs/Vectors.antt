@@ -1,6 +1,6 @@
 -- What the definitions give at chosen places. Each is false where its definition is wrong.
-use Rattle.std.proofs.Common.{◌≡◌, ℕ, true, false, List, [], ◌∷◌, ◌++◌, Option, None, Some, codes, map, refl}
-use Rattle.source_block.specs.declared.stop.Stop.TheVariants.{AtEnd, Failed}
+use Rattle.std.proofs.Common.{◌≡◌, ℕ, true, false, List, [], ◌∷◌, ◌+◌, None, Some, codes, length, map, refl, sym, subst, arith}
+use Rattle.source_block.specs.declared.stop.Stop.TheVariants.{AtEnd}
 use Rattle.vast_value.specs.declared.cell.Cell.{Cell}
 use Rattle.vast_value.specs.declared.cell.Cell.TheVariants.{Unset, One, Many}
 use Rattle.vast_value.specs.declared.kind.Elem.TheVariants as elem
@@ -13,17 +13,16 @@ use Rattle.vast_value.specs.Headings.{Field, Heading}
 use Rattle.event_batch.specs.Contents.{Content}
 use Rattle.zeek_log.specs.declared.step.ZeekEnd.TheVariants as log
 use Rattle.zeek_log.specs.declared.fault.ZeekFault.TheVariants.{BadCell}
-use Rattle.zeek_log.specs.Table.{LogStep, Head, Line}
-use Rattle.importer.specs.declared.ends.ImportEnd.{ImportEnd}
+use Rattle.zeek_log.specs.Table.{Head, Line}
 use Rattle.importer.specs.declared.ends.ImportEnd.TheVariants.{Fault, ReadFault, TooLong, Memory}
 use Rattle.importer.specs.declared.ends.InputFault.TheVariants as input
 use Rattle.importer.specs.declared.ends.How.TheVariants as how
-use Rattle.importer.specs.Carrying.{carried, cell_transport, protocol_place, row_transport, transport_at, transport_named}
-use Rattle.importer.specs.Coming.{Standing, Log, Ended, fresh, steps_left, steps_to_come}
-use Rattle.importer.specs.Cutting.{Bounds, Part, behind, bounds_of, cut, cut_answers, cut_by, is_full, parts_of, pieces_since, rows_first}
-use Rattle.importer.specs.Ending.{Answers, ahead, end_of_log, how_ended, only_end}
+use Rattle.importer.specs.Carrying.{carried, cell_transport, protocol_place, row_transport, transport_named}
+use Rattle.importer.specs.Coming.{Anything, Ended, Follow, IsKnownBy, IsLost, IsReadFault, MayFollow, Nothing, StepsOn, fresh, steps_left, steps_to_come}
+use Rattle.importer.specs.Cutting.{Bounds, behind, bounds_of, cut_answers, cut_by}
+use Rattle.importer.specs.Ending.{end_of_log, how_ended, only_end}
 use Rattle.importer.specs.Laws.{is_read_fault, rows_in}
-use Rattle.importer.specs.Steps.{carried_steps, input_steps}
+use Rattle.importer.specs.Steps.{carried_steps}
 
 -- Ends
 
@@ -148,3 +147,41 @@ all_rows = refl
 
 failed_reads : map is_read_fault (None ∷ Some ReadFault ∷ Some TooLong ∷ []) ≡ (false ∷ true ∷ false ∷ [])
 failed_reads = refl
+
+-- What is to come
+
+memory_is_lost : IsLost (Ended (Some Memory))
+memory_is_lost = tt
+
+an_end_is_not_lost : IsLost (Ended None) → ⊥
+an_end_is_not_lost lost = lost
+
+a_failed_read_is_one : IsReadFault (Ended (Some ReadFault))
+a_failed_read_is_one = tt
+
+too_long_is_none : IsReadFault (Ended (Some TooLong)) → ⊥
+too_long_is_none fault = fault
+
+-- a source without bytes has no steps, and its end is met
+an_empty_source_ends : StepsOn fresh (Ended None) (Some []) (Some []) []
+an_empty_source_ends may taken is_at = record {
+  took = [];
+  left = refl;
+  follow = Nothing AtEnd;
+  at = record { after = refl; known = (refl, omega (arith, is_at.count)); count = tt };
+  follows = λ more stop ok. subst (λ (f : Follow). MayFollow f more stop) (sym is_at.after) tt;
+  is = λ more stop ok. rw (ok.0, ok.1) refl;
+}
+
+-- of a source that tells a byte none of this is so
+abbrev one_byte : List ℕ
+one_byte = 65 ∷ []
+
+not_empty : one_byte ≡ [] → ⊥
+not_empty same = cc
+
+a_byte_is_no_end : StepsOn fresh (Ended None) (Some one_byte) (Some one_byte) [] → ⊥
+a_byte_is_no_end goes =
+    let leads = goes Anything 0 (record { after = refl; known = tt; count = refl }) in
+    let known : IsKnownBy (Nothing AtEnd) (Some one_byte) (0 + length leads.took) = subst (λ (f : Follow). IsKnownBy f (Some one_byte) (0 + length leads.took)) leads.at.after leads.at.known in
+    not_empty known.0

@@ -1,5 +1,5 @@
 -- How an input ends, and the answers that are still to come of one.
-use Rattle.std.specs.Prelude.{◌≡◌, List, [], ◌++◌, Option, None, Some, Result, Ok, Err}
+use Rattle.std.specs.Prelude.{List, [], ◌++◌, Option, None, Some}
 use Rattle.zeek_log.specs.declared.step.ZeekEnd.{ZeekEnd}
 use Rattle.zeek_log.specs.declared.step.ZeekEnd.TheVariants as log
 use Rattle.importer.specs.declared.ends.ImportEnd.{ImportEnd}

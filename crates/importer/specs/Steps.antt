@@ -1,5 +1,5 @@
 -- The steps of an input: those of a log, each row carried.
-use Rattle.std.specs.Prelude.{ℕ, Bool, List, [], ◌∷◌, Option, None, Some}
+use Rattle.std.specs.Prelude.{ℕ, Bool, List, [], ◌∷◌}
 use Rattle.vast_value.specs.Headings.{Field}
 use Rattle.source_block.specs.declared.stop.Stop.{Stop}
 use Rattle.zeek_log.specs.Steps.{Steps, steps_of, steps_of_source}

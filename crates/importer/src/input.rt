@@ -1,5 +1,5 @@
 //! The steps of a source.
-ghost use Rattle.std.specs.Prelude.{◌≡◌, ◌<◌, [], ◌∷◌, Ok, Err, Some, Option, is_some, IfOk, IfSome, OnOk, IsSome};
+ghost use Rattle.std.specs.Prelude.{◌≡◌, ◌<◌, [], ◌∷◌, Ok, Err, None, Some, Option, MatchOption, is_some, IfOk, IfSome, OnOk, IsSome};
 ghost use Rattle.vast_value.specs.Headings.{heading_of};
 ghost use Rattle.zeek_log.specs.Reader.{StepFits};
 ghost use Rattle.zeek_log.specs.Steps.{step_of};
@@ -12,6 +12,7 @@ use crate::log::LogReader;
 use std::alloc::Global;
 use std::marker::Model;
 use vast_io::Source;
+use vast_value::Layout;
 use zeek_log::Step;
 
 /// How far an input is.
@@ -86,6 +87,16 @@ impl<S: Source> Input<S> {
                     Some(end) => Err(end),
                 }
             }
+        }
+    }
+
+    /// The layout of the last head, as long as its rows may come.
+    pub fn layout(&self) -> Option<&Layout>
+        ensures { MatchOption result (heading_at self.now.at ≡ None) (λ layout. heading_at self.now.at ≡ Some (heading_of layout.now)) }
+    {
+        match &self.phase {
+            Phase::Log(log) => log.layout(),
+            _ => None,
         }
     }
 

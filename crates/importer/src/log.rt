@@ -1,5 +1,6 @@
 //! The steps of a log, each row carried.
-ghost use Rattle.std.specs.Prelude.{◌≡◌, ◌<◌, Ok, is_some, IfOk, OnOk};
+ghost use Rattle.std.specs.Prelude.{◌≡◌, ◌<◌, None, Ok, Some, is_some, IfOk, MatchOption, OnOk};
+ghost use Rattle.vast_value.specs.Headings.{heading_of};
 ghost use Rattle.zeek_log.specs.Going.{lines_left};
 ghost use Rattle.zeek_log.specs.Reader.{StepFits, heading_told};
 ghost use Rattle.zeek_log.specs.Steps.{step_of};
@@ -10,6 +11,7 @@ use crate::carrying::{carry, protocol_place};
 use std::alloc::{AllocError, Global};
 use std::marker::Model;
 use vast_io::Source;
+use vast_value::Layout;
 use zeek_log::{Step, ZeekEnd, ZeekReader};
 
 /// Reads a log from any source. Contracts see how far its reader is.
@@ -58,5 +60,12 @@ impl LogReader {
             }
             Step::Line(row) => Ok(Step::Line(carry(alloc, self.protocol, row)?)),
         }
+    }
+
+    /// The layout of the last head, if it stands.
+    pub fn layout(&self) -> Option<&Layout>
+        ensures { MatchOption result (heading_told self.now.state ≡ None) (λ layout. heading_told self.now.state ≡ Some (heading_of layout.now)) }
+    {
+        self.reader.layout()
     }
 }

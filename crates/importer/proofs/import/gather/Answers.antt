@@ -1,4 +1,3 @@
-use Rattle.std.proofs.Common.{◌≡◌, ap, sym, ◌∙◌}
 use Rattle.importer.proofs.TurnLemmas.{row_fits_columns}
 use Rattle.importer.proofs.import.gather.Goals as goal
 

@@ -1,5 +1,5 @@
-use Rattle.std.proofs.Common.{◌≡◌, ◌≤◌, ℕ, Option, refl, sym, ap, ◌∙◌, subst, arith}
-use Rattle.importer.specs.Coming.{Importing, Sourced, Standing}
+use Rattle.std.proofs.Common.{◌≤◌, refl, ap, ◌∙◌, subst, arith}
+use Rattle.importer.specs.Coming.{Importing, Sourced}
 use Rattle.importer.proofs.TurnLemmas.{faults_so, so_closes, so_ends, so_further, starts_held, starts_so, stays_so}
 use Rattle.importer.proofs.import.Import.next_batch.Goals as goal
 

@@ -1,5 +1,5 @@
 -- The rows gathered are those of the batch that isn't closed yet, and nothing was given.
-use Rattle.std.proofs.Common.{◌≡◌, ◌≤◌, ◌+◌, ℕ, List, [], Option, length, is_some}
+use Rattle.std.proofs.Common.{◌≡◌, ◌≤◌, ◌+◌, [], Option, length, is_some}
 use Rattle.importer.specs.Coming.{Ended, IsReadFault, steps_left}
 use Rattle.importer.specs.Turns.{AreHeld}
 use Rattle.importer.specs.declared.ends.ImportEnd.{ImportEnd}

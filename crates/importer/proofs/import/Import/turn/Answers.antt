@@ -1,11 +1,10 @@
-use Rattle.std.proofs.Common.{◌≡◌, List, Option, None, Some, refl, sym, ap, ◌∙◌, subst}
+use Rattle.std.proofs.Common.{Option, None, Some, ap, ◌∙◌, subst}
 use Rattle.std.specs.Option.{option_map}
 use Rattle.vast_value.specs.Headings.{heading_of}
 use Rattle.zeek_log.specs.declared.step.Step.{Step}
 use Rattle.zeek_log.specs.Table.{Head, Line}
-use Rattle.importer.specs.Coming.{Sourced, Standing, Stays, heading_at}
-use Rattle.importer.specs.declared.import.Turn.{Turn}
-use Rattle.importer.proofs.TurnLemmas.{EndsSo, FitsSo, GivesOn, end_turn, end_turn_holds, end_turn_stays, err_step, head_turn, head_turn_holds, line_turn, line_turn_holds, ok_step, row_fits_by, turn_going}
+use Rattle.importer.specs.Coming.{Stays, heading_at}
+use Rattle.importer.proofs.TurnLemmas.{EndsSo, FitsSo, GivesOn, end_turn, end_turn_holds, end_turn_stays, head_turn, head_turn_holds, line_turn, line_turn_holds, ok_step, row_fits_by, turn_going}
 use Rattle.importer.proofs.import.Import.turn.Goals as goal
 
 pub returns-in-Ok-Some-Head-clause-goes : goal.returns-in-Ok-Some-Head-clause-goes

@@ -1,4 +1,3 @@
-use Rattle.std.proofs.Common.{sym, subst}
 use Rattle.std.proofs.lemmas.Result.{err_from_is_err_and}
 use Rattle.importer.proofs.GoingLemmas.{head_at, end_at, line_at, line_fits_at}
 use Rattle.importer.proofs.log.LogReader.next.Goals as goal
