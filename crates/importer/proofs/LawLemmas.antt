@@ -1,0 +1,273 @@
+-- Laws of cutting, and of whole runs of answers.
+use Rattle.std.proofs.Common.{◌≡◌, ℕ, ◌-◌, ◌<◌, ◌≤◌, Bool, true, false, if◌then◌else◌, List, [], ◌∷◌, ◌++◌, Option, None, Some, zero, suc, length, map, take, refl, ap, sym, ◌∙◌, subst, arith, append_assoc, length-append, nat_le, inl, inr, ◌⊎◌}
+use Rattle.std.proofs.lemmas.Bool.Decides.{nat_tests}
+use Rattle.std.proofs.lemmas.List.{append-nil}
+use Rattle.std.proofs.Math.Seq.{take-append_seam}
+use Rattle.std.specs.Io.KnownBytes.{prepend_known}
+use Rattle.std.specs.List.{flat_map}
+use Rattle.vast_value.specs.declared.cell.Cell.{Cell}
+use Rattle.vast_value.specs.Headings.{Heading}
+use Rattle.event_batch.specs.Contents.{Content}
+use Rattle.source_block.specs.Holding.{most_bytes}
+use Rattle.source_block.specs.declared.stop.Stop.{Stop}
+use Rattle.source_block.specs.declared.stop.Stop.TheVariants.{AtEnd, Failed, AtBound}
+use Rattle.zeek_log.specs.Steps.{Steps, steps_of, taken_steps}
+use Rattle.zeek_log.specs.Table.{LogStep, Head, Line}
+use Rattle.importer.specs.declared.ends.ImportEnd.{ImportEnd}
+use Rattle.importer.specs.declared.ends.ImportEnd.TheVariants.{Fault, ReadFault, TooLong, Memory}
+use Rattle.importer.specs.Coming.{Anything, BatchesOn, Ended, Follow, Importing, IsAfter, IsAfterEnd, IsKnownBy, IsLost, MayFollow, Nothing, Standing, StepsOn, batches_to_come, fresh, steps_to_come}
+use Rattle.importer.specs.Cutting.{Bounds, Part, batch_of, cut_answers, cut_by, is_full, last_piece, part_batches, parts_of, pieces_since, rows_first, steps_behind}
+use Rattle.importer.specs.Ending.{Answers, ahead, only_end}
+use Rattle.importer.specs.Laws.{AreCut, IsPiece, is_read_fault, rows_in, starting}
+use Rattle.importer.specs.Steps.{carried_answers, input_steps, input_steps_of_source}
+use Rattle.importer.proofs.CutLemmas.{nothing_comes}
+use Rattle.importer.proofs.GoingLemmas.{goes_join}
+
+abbrev Rows : Type 0
+Rows = List (List Cell)
+
+-- ---- pieces
+
+abbrev joined : List Rows → Rows
+joined pieces = flat_map (λ piece. piece) pieces
+
+last_joined : (since : Rows) → joined (last_piece since) ≡ since
+last_joined [] = refl
+last_joined (x ∷ xs) = append-nil (x ∷ xs)
+
+one_by_one : (full : Rows → Bool) (since : Rows) (row : List Cell) (rows : Rows) (b : Bool) → (since ++ row ∷ []) ++ joined (pieces_since full [] rows) ≡ since ++ row ∷ rows
+    → joined (pieces_since full (since ++ row ∷ []) rows) ≡ since ++ row ∷ rows
+    → joined (if b then (since ++ row ∷ []) ∷ pieces_since full [] rows else pieces_since full (since ++ row ∷ []) rows) ≡ since ++ row ∷ rows
+one_by_one full since row rows true cut on = cut
+one_by_one full since row rows false cut on = on
+
+since_joined : (full : Rows → Bool) (rows since : Rows) → joined (pieces_since full since rows) ≡ since ++ rows
+since_joined full [] since = last_joined since ∙ sym (append-nil since)
+since_joined full (row ∷ rows) since =
+    one_by_one full since row rows (full (since ++ row ∷ []))
+    (ap (λ (r : Rows). (since ++ row ∷ []) ++ r) (since_joined full rows []) ∙ append_assoc since (row ∷ []) rows)
+    (since_joined full rows (since ++ row ∷ []) ∙ append_assoc since (row ∷ []) rows)
+
+pub pieces_joined : (full : Rows → Bool) (rows : Rows) → joined (pieces_since full [] rows) ≡ rows
+pieces_joined full rows = since_joined full rows []
+
+-- no beginning is full
+abbrev IsBelow : (Rows → Bool) → Rows → Type 0
+IsBelow full since = (count : ℕ) → 0 < count → count ≤ length since → full (take count since) ≡ false
+
+take_front : (count : ℕ) (xs ys : Rows) → count ≤ length xs → take count (xs ++ ys) ≡ take count xs
+take_front zero xs ys few = refl
+take_front (suc n) [] ys few = absurd (omega (arith, few))
+take_front (suc n) (x ∷ xs) ys few = ap (λ (r : Rows). x ∷ r) (take_front n xs ys (omega (arith, few)))
+
+take_whole : (count : ℕ) (xs : Rows) → length xs ≤ count → take count xs ≡ xs
+take_whole zero [] many = refl
+take_whole zero (x ∷ xs) many = absurd (omega (arith, many))
+take_whole (suc n) [] many = refl
+take_whole (suc n) (x ∷ xs) many = ap (λ (r : Rows). x ∷ r) (take_whole n xs (omega (arith, many)))
+
+piece_of : (full : Rows → Bool) (since : Rows) (row : List Cell) → IsBelow full since → IsPiece full (since ++ row ∷ [])
+piece_of full since row below = record {
+  some = omega (arith, length-append since (row ∷ []));
+  first = λ count some few.
+      let within : count ≤ length since = omega (arith, few, length-append since (row ∷ [])) in
+      ap full (take_front count since (row ∷ []) within) ∙ below count some within;
+}
+
+below_more_by : (full : Rows → Bool) (since : Rows) (row : List Cell) (count : ℕ) (b : Bool) → nat_le count (length since) ≡ b → IsBelow full since → full (since ++ row ∷ []) ≡ false → 0 < count → count ≤ length (since ++ row ∷ [])
+    → full (take count (since ++ row ∷ [])) ≡ false
+below_more_by full since row count true is below open_ some few =
+    let within : count ≤ length since = grind (arith, nat_tests, is) in
+    ap full (take_front count since (row ∷ []) within) ∙ below count some within
+below_more_by full since row count false is below open_ some few =
+    let past : length since < count = grind (arith, nat_tests, is) in
+    ap full (take_whole count (since ++ row ∷ []) (omega (arith, past, length-append since (row ∷ [])))) ∙ open_
+
+below_more : (full : Rows → Bool) (since : Rows) (row : List Cell) → IsBelow full since → full (since ++ row ∷ []) ≡ false → IsBelow full (since ++ row ∷ [])
+below_more full since row below open_ count some few = below_more_by full since row count (nat_le count (length since)) refl below open_ some few
+
+below_nothing : (full : Rows → Bool) → IsBelow full []
+below_nothing full count some few = absurd (omega (arith, some, few))
+
+last_cut : (full : Rows → Bool) (since : Rows) → IsBelow full since → AreCut full (last_piece since)
+last_cut full [] below = tt
+last_cut full (x ∷ xs) below = record { some = omega arith; first = λ count some few. below count some (omega (arith, few)) }
+
+cut_before : (full : Rows → Bool) (piece : Rows) (pieces : List Rows) → IsPiece full piece → full piece ≡ true → AreCut full pieces → AreCut full (piece ∷ pieces)
+cut_before full piece [] is closed rest = is
+cut_before full piece (next ∷ pieces) is closed rest = (is, closed, rest)
+
+cut_by_test : (full : Rows → Bool) (since : Rows) (row : List Cell) (rows : Rows) (b : Bool) → full (since ++ row ∷ []) ≡ b
+    → (b ≡ true → AreCut full ((since ++ row ∷ []) ∷ pieces_since full [] rows)) → (b ≡ false → AreCut full (pieces_since full (since ++ row ∷ []) rows))
+    → AreCut full (if b then (since ++ row ∷ []) ∷ pieces_since full [] rows else pieces_since full (since ++ row ∷ []) rows)
+cut_by_test full since row rows true is cut on = cut refl
+cut_by_test full since row rows false is cut on = on refl
+
+since_cut : (full : Rows → Bool) (rows since : Rows) → IsBelow full since → AreCut full (pieces_since full since rows)
+since_cut full [] since below = last_cut full since below
+since_cut full (row ∷ rows) since below =
+    cut_by_test full since row rows (full (since ++ row ∷ [])) refl
+    (λ closed. cut_before full (since ++ row ∷ []) (pieces_since full [] rows) (piece_of full since row below) closed (since_cut full rows [] (below_nothing full)))
+    (λ open_. since_cut full rows (since ++ row ∷ []) (below_more full since row below open_))
+
+pub pieces_cut : (full : Rows → Bool) (rows : Rows) → AreCut full (pieces_since full [] rows)
+pieces_cut full rows = since_cut full rows [] (below_nothing full)
+
+-- ---- rows of batches
+
+abbrev batch_rows : List Content → Rows
+batch_rows batches = flat_map (λ batch. batch.rows) batches
+
+rows_of_pieces : (source : ℕ) (heading : Heading) (pieces : List Rows) → batch_rows (map (batch_of source heading) pieces) ≡ joined pieces
+rows_of_pieces source heading [] = refl
+rows_of_pieces source heading (piece ∷ pieces) = ap (λ (r : Rows). piece ++ r) (rows_of_pieces source heading pieces)
+
+rows_of_both : (a b : List Content) → batch_rows (a ++ b) ≡ batch_rows a ++ batch_rows b
+rows_of_both [] b = refl
+rows_of_both (x ∷ xs) b = ap (λ (r : Rows). x.rows ++ r) (rows_of_both xs b) ∙ sym (append_assoc x.rows (batch_rows xs) (batch_rows b))
+
+abbrev part_rows : List Part → Rows
+part_rows parts = flat_map (λ part. part.rows) parts
+
+rows_of_parts : (bounds : Bounds) (source : ℕ) (parts : List Part) → batch_rows (flat_map (part_batches source bounds) parts) ≡ part_rows parts
+rows_of_parts bounds source [] = refl
+rows_of_parts bounds source (part ∷ parts) =
+    rows_of_both (part_batches source bounds part) (flat_map (part_batches source bounds) parts)
+    ∙ ap (λ (r : Rows). r ++ batch_rows (flat_map (part_batches source bounds) parts))
+    (rows_of_pieces source part.heading (pieces_since (is_full bounds) [] part.rows) ∙ pieces_joined (is_full bounds) part.rows)
+    ∙ ap (λ (r : Rows). part.rows ++ r) (rows_of_parts bounds source parts)
+
+first_and_parts : (steps : List LogStep) → rows_first steps ++ part_rows (parts_of steps) ≡ rows_in steps
+first_and_parts [] = refl
+first_and_parts (Head heading ∷ steps) = first_and_parts steps
+first_and_parts (Line row ∷ steps) = ap (λ (r : Rows). row ∷ r) (first_and_parts steps)
+
+pub rows_kept : (bounds : Bounds) (source : ℕ) (heading : Heading) (steps : List LogStep) → batch_rows (cut_by bounds source (Head heading ∷ steps)) ≡ rows_in steps
+rows_kept bounds source heading steps = rows_of_parts bounds source (parts_of (Head heading ∷ steps)) ∙ first_and_parts steps
+
+-- ---- runs of answers
+
+joins : {X : Type 0} (xs ys : List X) (z : Answers X) → ahead xs (ahead ys z) ≡ ahead (xs ++ ys) z
+joins {X = X} xs ys z = ap (λ (t : List X). record { given = t; end = z.end }) (sym (append_assoc xs ys z.given))
+
+pub steps_join : (a b c : Standing) (la lb lc : Option (List ℕ)) (xs ys : List LogStep) → StepsOn a b la lb xs → StepsOn b c lb lc ys → StepsOn a c la lc (xs ++ ys)
+steps_join a b c la lb lc xs ys one two may taken is_at =
+    let both = goes_join a b c (steps_to_come a) (steps_to_come b) (steps_to_come c) (ahead xs) (ahead ys) la lb lc one two may taken is_at in
+    record { took = both.took; left = both.left; follow = both.follow; at = both.at; follows = both.follows; is = λ more stop ok. both.is more stop ok ∙ joins xs ys (steps_to_come c more stop) }
+
+pub batches_join : (a b c : Importing) (la lb lc : Option (List ℕ)) (xs ys : List Content) → BatchesOn a b la lb xs → BatchesOn b c lb lc ys → BatchesOn a c la lc (xs ++ ys)
+batches_join a b c la lb lc xs ys one two may taken is_at =
+    let both = goes_join a.standing b.standing c.standing (batches_to_come a) (batches_to_come b) (batches_to_come c) (ahead xs) (ahead ys) la lb lc one two may taken is_at in
+    record { took = both.took; left = both.left; follow = both.follow; at = both.at; follows = both.follows; is = λ more stop ok. both.is more stop ok ∙ joins xs ys (batches_to_come c more stop) }
+
+-- ---- from the start to an end
+
+taken_is : (bytes took rest : List ℕ) → bytes ≡ took ++ rest → take (length bytes - length rest) bytes ≡ took
+taken_is bytes took rest split =
+    let count : length bytes - length rest ≡ length took = omega (arith, ap length split, length-append took rest) in
+    ap (λ (n : ℕ). take n bytes) count ∙ ap (λ (t : List ℕ). take (length took) t) split ∙ take-append_seam took rest
+
+at_bound : (bytes took : List ℕ) (b : Bool) → nat_le most_bytes (length took) ≡ b → b ≡ true → taken_steps bytes took false ≡ steps_of took AtBound
+at_bound bytes took b is at = rw (is ∙ at) refl
+
+below_bound : (bytes took : List ℕ) (b : Bool) → nat_le most_bytes (length took) ≡ b → b ≡ false → taken_steps bytes took false ≡ steps_of bytes AtEnd
+below_bound bytes took b is off = rw (is ∙ off) refl
+
+below_most : (n : ℕ) → n < most_bytes → nat_le most_bytes n ≡ false
+below_most n few = grind (arith, nat_tests, few)
+
+most_is : (n : ℕ) → n ≡ most_bytes → nat_le most_bytes n ≡ true
+most_is n full = grind (arith, nat_tests, full)
+
+abbrev carries : Steps → Answers LogStep
+carries steps = carried_answers [] steps
+
+-- the steps of the source are those of what was taken and may follow
+abbrev FollowsSo : List ℕ → List ℕ → List ℕ → Follow → Bool → Type 0
+FollowsSo bytes left took follow failed = (more : List ℕ) × ((stop : Stop) × (MayFollow follow more stop × (input_steps_of_source bytes left failed ≡ input_steps (took ++ more) stop)))
+
+failed_so : (bytes left took : List ℕ) → bytes ≡ took ++ left → FollowsSo bytes left took (Nothing Failed) true
+failed_so bytes left took split =
+    ([], (Failed, ((refl, refl), ap (λ (t : List ℕ). carries (steps_of t Failed)) (taken_is bytes took left split ∙ sym (append-nil took)))))
+
+bound_so : (bytes left took : List ℕ) (follow : Follow) → bytes ≡ took ++ left → nat_le most_bytes (length took) ≡ true → MayFollow follow [] AtBound → FollowsSo bytes left took follow false
+bound_so bytes left took follow split full may = (
+  [],
+  (
+    AtBound,
+    (
+      may,
+      ap (λ (t : List ℕ). carries (taken_steps bytes t false)) (taken_is bytes took left split) ∙ ap carries (at_bound bytes took true full refl)
+          ∙ ap (λ (t : List ℕ). carries (steps_of t AtBound)) (sym (append-nil took)),
+    ),
+  ),
+)
+
+there_so : (bytes left took : List ℕ) (follow : Follow) → bytes ≡ took ++ left → nat_le most_bytes (length took) ≡ false → MayFollow follow left AtEnd → FollowsSo bytes left took follow false
+there_so bytes left took follow split few may = (
+  left,
+  (
+    AtEnd,
+    (
+      may,
+      ap (λ (t : List ℕ). carries (taken_steps bytes t false)) (taken_is bytes took left split) ∙ ap carries (below_bound bytes took false few refl)
+          ∙ ap (λ (t : List ℕ). carries (steps_of t AtEnd)) split,
+    ),
+  ),
+)
+
+anything_so : (bytes left took : List ℕ) (b : Bool) → bytes ≡ took ++ left → nat_le most_bytes (length took) ≡ b → FollowsSo bytes left took Anything false
+anything_so bytes left took true split is = bound_so bytes left took Anything split is tt
+anything_so bytes left took false split is = there_so bytes left took Anything split is tt
+
+at_end_so : (bytes left took : List ℕ) → bytes ≡ took ++ left → IsKnownBy (Nothing AtEnd) (Some left) (length took) → FollowsSo bytes left took (Nothing AtEnd) false
+at_end_so bytes left took split known = there_so bytes left took (Nothing AtEnd) split (below_most (length took) known.1) (known.0, refl)
+
+fault_so : (bytes left took : List ℕ) (follow : Follow) → bytes ≡ took ++ left → (follow ≡ Anything) ⊎ (follow ≡ Nothing AtEnd) → IsKnownBy follow (Some left) (length took) → FollowsSo bytes left took follow false
+fault_so bytes left took follow split (inl is) known =
+    subst (λ (f : Follow). FollowsSo bytes left took f false) (sym is) (anything_so bytes left took (nat_le most_bytes (length took)) split refl)
+fault_so bytes left took follow split (inr is) known =
+    subst (λ (f : Follow). FollowsSo bytes left took f false) (sym is) (at_end_so bytes left took split (subst (λ (f : Follow). IsKnownBy f (Some left) (length took)) is known))
+
+end_so : (bytes left took : List ℕ) (follow : Follow) (end : Option ImportEnd) → bytes ≡ took ++ left → IsAfterEnd end follow → IsKnownBy follow (Some left) (length took) → (IsLost (Ended end) → ⊥)
+    → FollowsSo bytes left took follow (is_read_fault end)
+end_so bytes left took follow None split after known there =
+    subst (λ (f : Follow). FollowsSo bytes left took f false) (sym after) (at_end_so bytes left took split (subst (λ (f : Follow). IsKnownBy f (Some left) (length took)) after known))
+end_so bytes left took follow (Some ReadFault) split after known there =
+    subst (λ (f : Follow). FollowsSo bytes left took f true) (sym after) (failed_so bytes left took split)
+end_so bytes left took follow (Some TooLong) split after known there =
+    subst (λ (f : Follow). FollowsSo bytes left took f false) (sym after)
+    (bound_so bytes left took (Nothing AtBound) split (most_is (length took) (subst (λ (f : Follow). IsKnownBy f (Some left) (length took)) after known)) (refl, refl))
+end_so bytes left took follow (Some (Fault fault)) split after known there = fault_so bytes left took follow split after known
+end_so bytes left took follow (Some Memory) split after known there = absurd (there tt)
+
+some_is : (bytes took rest : List ℕ) → Some bytes ≡ prepend_known took (Some rest) → bytes ≡ took ++ rest
+some_is bytes took rest same = cc
+
+given_all : {X : Type 0} (given : List X) (end : Option ImportEnd) → ahead given (only_end end) ≡ record { given = given; end = end }
+given_all {X = X} given end = ap (λ (t : List X). record { given = t; end = end }) (append-nil given)
+
+pub whole_steps : (bytes left : List ℕ) (end : Option ImportEnd) (given : List LogStep) → StepsOn fresh (Ended end) (Some bytes) (Some left) given → (IsLost (Ended end) → ⊥)
+    → input_steps_of_source bytes left (is_read_fault end) ≡ record { given = given; end = end }
+whole_steps bytes left end given goes there =
+    let leads = goes Anything 0 (record { after = refl; known = tt; count = refl }) in
+    let known : IsKnownBy leads.follow (Some left) (length leads.took) = subst (λ (n : ℕ). IsKnownBy leads.follow (Some left) n) (omega arith) leads.at.known in
+    let so = end_so bytes left leads.took leads.follow end (some_is bytes leads.took left leads.left) leads.at.after known there in
+    so.1.1.1 ∙ leads.is so.0 so.1.0 so.1.1.0 ∙ given_all given end
+
+batches_by : (number rows : ℕ) (now : Importing) (bytes left : List ℕ) (end : Option ImportEnd) (given : List Content) (standing : Standing) → now.standing ≡ standing → standing ≡ Ended end
+    → BatchesOn (starting number rows) now (Some bytes) (Some left) given → (IsLost (Ended end) → ⊥)
+    → cut_answers number rows (input_steps_of_source bytes left (is_read_fault end)) ≡ record { given = given; end = end }
+batches_by number rows now bytes left end given standing is ended goes there =
+    let leads = goes Anything 0 (record { after = refl; known = tt; count = refl }) in
+    let at_end : now.standing ≡ Ended end = is ∙ ended in
+    let after : IsAfterEnd end leads.follow = subst (λ (s : Standing). IsAfter s leads.follow) at_end leads.at.after in
+    let known : IsKnownBy leads.follow (Some left) (length leads.took) = subst (λ (n : ℕ). IsKnownBy leads.follow (Some left) n) (omega arith) leads.at.known in
+    let so = end_so bytes left leads.took leads.follow end (some_is bytes leads.took left leads.left) after known there in
+    ap (cut_answers number rows) so.1.1.1 ∙ leads.is so.0 so.1.0 so.1.1.0
+    ∙ ap (λ (s : Standing). ahead given (cut_answers now.number now.rows (steps_behind now.heading [] (steps_to_come s so.0 so.1.0)))) at_end
+    ∙ ap (ahead given) (nothing_comes now.number now.rows now.heading end) ∙ given_all given end
+
+pub whole_batches : (number rows : ℕ) (now : Importing) (bytes left : List ℕ) (end : Option ImportEnd) (given : List Content) → BatchesOn (starting number rows) now (Some bytes) (Some left) given
+    → now.standing ≡ Ended end → (IsLost (Ended end) → ⊥) → cut_answers number rows (input_steps_of_source bytes left (is_read_fault end)) ≡ record { given = given; end = end }
+whole_batches number rows now bytes left end given goes ended there = batches_by number rows now bytes left end given (Ended end) ended refl goes there

@@ -1,0 +1,6 @@
+mod CarryLemmas
+pub mod CutLemmas
+pub mod GoingLemmas
+pub mod TurnLemmas
+pub mod LawLemmas
+mod Vectors

@@ -1,0 +1,93 @@
+//! How an input ends.
+ghost use Rattle.std.specs.Prelude.{◌≡◌};
+ghost use Rattle.importer.specs.Ending.{end_of_log, how_ended};
+
+use vast_value::Bytes;
+use zeek_log::{ZeekEnd, ZeekFault};
+
+/// What is wrong with an input.
+#[derive(Clone, Copy, Debug, PartialEq, Eq)]
+pub enum InputFault {
+    /// A log is wrong at a line, counted from 1, and a column, counted from 1, or 0 for the line as a whole.
+    Line {
+        line: u64,
+        column: u32,
+        what: ZeekFault,
+    },
+}
+
+/// Why no more of an input comes, though not all of it was given. Once given, it is given again.
+#[derive(Clone, Copy, Debug, PartialEq, Eq)]
+pub enum ImportEnd {
+    /// The input is wrong.
+    Fault(InputFault),
+    /// A read of the source failed.
+    ReadFault,
+    /// The source went on past the bound.
+    TooLong,
+    /// No memory was left.
+    Memory,
+}
+
+/// How a source went.
+#[derive(Clone, Copy, Debug, PartialEq, Eq)]
+pub enum How {
+    /// Its end was not met.
+    Unread,
+    /// All of it was given.
+    Done,
+    /// It is wrong.
+    Fault(InputFault),
+    /// A read failed.
+    ReadFault,
+    /// It went on past the bound.
+    TooLong,
+    /// The next batch would have passed the limit of rows, of which there were so many.
+    Full { have: u64, limit: u64 },
+    /// No memory was left.
+    Memory,
+}
+
+impl How {
+    /// How a source went whose import answered this end, or `None` where all of it was given.
+    pub fn ended(end: Option<ImportEnd>) -> How
+        ensures { result ≡ how_ended end }
+    {
+        match end {
+            None => How::Done,
+            Some(ImportEnd::Fault(fault)) => How::Fault(fault),
+            Some(ImportEnd::ReadFault) => How::ReadFault,
+            Some(ImportEnd::TooLong) => How::TooLong,
+            Some(ImportEnd::Memory) => How::Memory,
+        }
+    }
+}
+
+/// A source when all is done with it.
+#[derive(Drop)]
+pub struct SourceEnd<S: Drop> {
+    /// Its number.
+    pub source: u32,
+    /// The name that it was opened by.
+    pub name: Bytes,
+    /// How many of its rows were accepted.
+    pub rows: u64,
+    pub how: How,
+    /// The source as it was left.
+    pub rest: Option<S>,
+}
+
+/// How a log's end is told of an input: `None` where all of it was given.
+pub(crate) fn end_of_log(end: ZeekEnd) -> Option<ImportEnd>
+    ensures { result ≡ end_of_log end }
+{
+    match end {
+        ZeekEnd::Done => None,
+        ZeekEnd::Fault { line, column, what } => {
+            Some(ImportEnd::Fault(InputFault::Line { line, column, what }))
+        }
+        ZeekEnd::ReadFault => Some(ImportEnd::ReadFault),
+        ZeekEnd::TooLong => Some(ImportEnd::TooLong),
+        ZeekEnd::Memory => Some(ImportEnd::Memory),
+    }
+}

@@ -1,0 +1,24 @@
+//! The importer: inputs to batches.
+//!
+//! An [`Input`] gives the steps of a source, each row carried: its ports get the transport that its protocol names. An
+//! [`Import`] cuts these steps into batches. Contracts see what is still to come of either by the bytes that its source
+//! still gives, and the source itself.
+#![tactic(auto)]
+
+mod carrying;
+mod ends;
+mod gathered;
+mod import;
+mod input;
+mod laws;
+mod log;
+#[cfg(test)]
+mod tests;
+
+pub use carrying::carried;
+pub use ends::{How, ImportEnd, InputFault, SourceEnd};
+pub use import::Import;
+pub use input::Input;
+pub use laws::{
+    a_carried_row_is_carried, all_is_given, answers_join, no_row_is_lost, pieces_are_rows,
+};
