@@ -179,3 +179,11 @@ some_any test first low at high e xs h k is pass =
     ∙ ap (λ (ys : List (ℕ × Event)). ys ++ back) (one_row first at e xs within got)))
     ∙ any_append (λ (x : ℕ × Event). test x.1) front ((first + at, e) ∷ back)
     (ap (λ (b : Bool). b || list_any (λ (x : ℕ × Event). test x.1) back) pass)
+
+numbered_long : (n : ℕ) (xs : List Event) → length (numbered n xs) ≡ length xs
+numbered_long n [] = refl
+numbered_long n (x ∷ xs) = omega (arith, numbered_long (n + 1) xs)
+
+pub rows_long : (first low high : ℕ) (xs : List Event) → low ≤ high → high ≤ length xs → length (rows_between first low high xs) ≡ high - low
+rows_long first low high xs h k =
+    omega (arith, h, k, numbered_long (first + low) (take (high - low) (drop low xs)), length-take (high - low) (drop low xs), length-drop low xs)

@@ -2,6 +2,8 @@
 #![tactic(auto)]
 
 mod founds;
+mod live;
+mod past;
 mod rows;
 mod tally;
 
