@@ -1,5 +1,5 @@
 //! The past range: what its parts tell, and the batches that have to be read.
-ghost use Rattle.std.specs.Prelude.{◌≡◌, ℕ, ◌+◌, ◌<◌, ◌≤◌, All, Contains, false, true, length, map, slice_index_or, OnErr, OnOk};
+ghost use Rattle.std.specs.Prelude.{◌≡◌, ℕ, ◌+◌, ◌<◌, ◌≤◌, ◌++◌, All, Contains, false, true, length, map, slice_index_or, OnErr, OnOk};
 ghost use Rattle.event_history.specs.Covers.{Cover, StandsIn};
 ghost use Rattle.event_history.specs.Pieces.{Held as HeldBatch, piece_events};
 ghost use Rattle.history_core.specs.Snapshots.{WasTaken};
@@ -115,6 +115,15 @@ fn count_of(part: &Part, held: &[Held]) -> usize
     held.len()
 }
 
+/// The batches in front that are a part's, and the others.
+fn split_off<'a>(part: &Part, held: &'a [Held]) -> (&'a [Held], &'a [Held])
+    ensures whole { held.now ≡ result.0.now ++ result.1.now }
+    ensures mine { All (λ h. belongs (piece_of part.now) h ≡ true) result.0.now }
+    ensures rest { (d : HeldBatch) → 0 < length result.1.now → belongs (piece_of part.now) (slice_index_or result.1.now 0 d) ≡ false }
+{
+    held.split_at(count_of(part, held))
+}
+
 /// Adds the batches of the past range, part by part.
 pub(crate) fn add_parts<L: Ledger>(
     taken: &Taken,
@@ -135,9 +144,9 @@ pub(crate) fn add_parts<L: Ledger>(
 {
     let mut rest = held;
     for part in parts {
-        let count = count_of(part, rest);
-        add_part(taken, part, &rest[..count], tally, cache, steps)?;
-        rest = &rest[count..];
+        let (mine, others) = split_off(part, rest);
+        add_part(taken, part, mine, tally, cache, steps)?;
+        rest = others;
     }
     Ok(())
 }
