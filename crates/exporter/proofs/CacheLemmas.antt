@@ -1,6 +1,6 @@
 -- What asks make of a cache.
-use Rattle.std.proofs.Common.{◌≡◌, ◌≢◌, ◌⊎◌, ℕ, zero, suc, ◌+◌, ◌-◌, ◌<◌, ◌≤◌, Bool, true, false, not, cond, List, [], ◌∷◌, ◌++◌, Option, None, Some, IfSome, is_none, is_some, length, map, take, nat_eq, refl, ap, sym, ◌∙◌, subst, arith, inl, inr, get_or, slice_index_or}
-use Rattle.std.specs.List.{All, Contains, count_by, sum_by}
+use Rattle.std.proofs.Common.{◌≡◌, ◌≢◌, ◌⊎◌, ℕ, zero, suc, ◌+◌, ◌≤◌, Bool, true, false, not, cond, List, [], ◌∷◌, ◌++◌, Option, None, Some, IfSome, is_none, is_some, length, take, nat_eq, refl, ap, sym, ◌∙◌, subst, arith, inl, inr, get_or, slice_index_or}
+use Rattle.std.specs.List.{Contains, count_by}
 use Rattle.std.specs.Map.{lookup, remove_entry}
 use Rattle.std.proofs.lemmas.List.{length-map, length-take, take_all}
 use Rattle.std.proofs.lemmas.List.Elements.{All-contains_itself}
@@ -8,7 +8,7 @@ use Rattle.std.proofs.lemmas.List.Sums.{sum_by-append}
 use Rattle.std.proofs.lemmas.Bool.Decides.{eqb_tells}
 use Rattle.event_batch.specs.Contents.{Content}
 use Rattle.event_history.specs.Pieces.{Held}
-use Rattle.archive_cache.specs.Caches.{Agrees, Caching, Kept, after_ask, decodings, kept_as}
+use Rattle.archive_cache.specs.Caches.{Agrees, Caching, Kept, after_ask, kept_as}
 use Rattle.archive_cache.proofs.EntryLemmas.{absent_removed, found_removed}
 use Rattle.exporter.specs.Asks.{AgreesWith, KeepsOnly, KeptAreNotLoaded, after_run, asks_of, together}
 
@@ -17,9 +17,9 @@ taken_found : (n size : ℕ) (es : List Kept) (x : Content) → lookup (nat_eq n
 taken_found n zero es x h = absurd cc
 taken_found n (suc size) [] x h = h
 taken_found n (suc size) (e ∷ es) x h = (elim (nat_eq n e.0) as (λ b. cond b (Some e.1) (lookup (nat_eq n) (take size es)) ≡ Some x → cond b (Some e.1) (lookup (nat_eq n) es) ≡ Some x) [
-    | true ↦ λ same. same
-    | false ↦ λ on. taken_found n size es x on
-  ]) h
+  | true ↦ λ same. same
+  | false ↦ λ on. taken_found n size es x on
+]) h
 
 not_same : (n m : ℕ) → n ≢ m → nat_eq n m ≡ false
 not_same n m ne = elim (eqb_tells n m) as (λ _. nat_eq n m ≡ false) [ inl same ↦ absurd (ne same.1) | inr apart ↦ apart.0 ]
@@ -138,8 +138,12 @@ none_of : (o : Option Content) → is_none o ≡ not (is_some o)
 none_of None = refl
 none_of (Some x) = refl
 
+none_fewer : (b : Bool) → b ≡ true → cond (not b) 1 0 ≤ 0
+none_fewer true e = omega arith
+none_fewer false e = absurd cc
+
 fewer : (a b : Bool) → (a ≡ true → b ≡ true) → cond (not b) 1 0 ≤ cond (not a) 1 0
-fewer true b h = let same : b ≡ true = h refl in omega (arith, ap (λ (z : Bool). cond (not z) 1 0) same)
+fewer true b h = none_fewer b (h refl)
 fewer false true h = omega arith
 fewer false false h = omega arith
 
@@ -149,9 +153,10 @@ missing c ask = cond (is_none (kept_as ask.0 c)) 1 0
 missing_less : (c d : Caching) → ((n : ℕ) → is_some (kept_as n c) ≡ true → is_some (kept_as n d) ≡ true) → (ask : Kept) → missing d ask ≤ missing c ask
 unfolding missing
 missing_less c d keeps ask =
-    let one : cond (is_none (kept_as ask.0 d)) 1 0 ≡ cond (not (is_some (kept_as ask.0 d))) 1 0 = ap (λ (b : Bool). cond b 1 0) (none_of (kept_as ask.0 d)) in
-    let two : cond (is_none (kept_as ask.0 c)) 1 0 ≡ cond (not (is_some (kept_as ask.0 c))) 1 0 = ap (λ (b : Bool). cond b 1 0) (none_of (kept_as ask.0 c)) in
-    omega (arith, one, two, fewer (is_some (kept_as ask.0 c)) (is_some (kept_as ask.0 d)) (keeps ask.0))
+    let count : Bool → ℕ = λ b. cond b 1 0 in
+    subst (λ (b : Bool). count b ≤ count (is_none (kept_as ask.0 c))) (sym (none_of (kept_as ask.0 d)))
+    (subst (λ (b : Bool). count (not (is_some (kept_as ask.0 d))) ≤ count b) (sym (none_of (kept_as ask.0 c)))
+    (fewer (is_some (kept_as ask.0 c)) (is_some (kept_as ask.0 d)) (keeps ask.0)))
 
 count_one : (c : Caching) (ask : Kept) (asks : List Kept) → count_by (λ a. is_none (kept_as a.0 c)) (ask ∷ asks) ≡ missing c ask + count_by (λ a. is_none (kept_as a.0 c)) asks
 unfolding missing
@@ -178,7 +183,8 @@ stays (ask ∷ asks) c n room kept =
     let all = removed_long ask.0 c.entries (kept_as ask.0 c) refl in
     let one = count_one c ask asks in
     let fits : length (remove_entry (nat_eq ask.0) c.entries) + 1 ≤ c.size = omega (arith, all, one, room) in
-    let long : length d.entries ≤ length (remove_entry (nat_eq ask.0) c.entries) + 1 = taken_few c.size ((ask.0, ask.1) ∷ remove_entry (nat_eq ask.0) c.entries) in
+    let few : length d.entries ≤ suc (length (remove_entry (nat_eq ask.0) c.entries)) = taken_few c.size ((ask.0, ask.1) ∷ remove_entry (nat_eq ask.0) c.entries) in
+    let long : length d.entries ≤ length (remove_entry (nat_eq ask.0) c.entries) + 1 = omega (arith, few) in
     let less = count_less c d (λ k is. kept_more k ask.0 ask.1 c fits is) asks in
     stays asks d n (omega (arith, all, one, room, long, less)) (kept_more n ask.0 ask.1 c fits kept)
 

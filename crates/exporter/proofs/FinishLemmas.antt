@@ -1,7 +1,7 @@
 -- The page of a snapshot, of all of its batches.
-use Rattle.std.proofs.Common.{◌≡◌, ℕ, zero, suc, ◌+◌, ◌-◌, ◌^◌, ◌<◌, ◌≤◌, Bool, true, false, cond, List, [], ◌∷◌, ◌++◌, filter, flat_map, map, length, min, refl, ap, sym, ◌∙◌, subst, arith, slice_index_or}
-use Rattle.std.specs.List.{All, Contains, count_by, sum_by}
-use Rattle.std.proofs.lemmas.List.{length-append, length-map, map-append}
+use Rattle.std.proofs.Common.{◌≡◌, ℕ, ◌+◌, ◌^◌, ◌<◌, ◌≤◌, true, List, [], ◌∷◌, ◌++◌, filter, flat_map, length, refl, ap, sym, ◌∙◌, arith, slice_index_or}
+use Rattle.std.specs.List.{All, Contains}
+use Rattle.std.proofs.lemmas.List.{length-append}
 use Rattle.std.proofs.lemmas.List.Elements.{All-contains_itself, Contains-append_left, Contains-append_right}
 use Rattle.std.proofs.lemmas.List.Sums.{count_by-le-length, length-filter}
 use Rattle.event_history.specs.Events.{Event}
@@ -12,7 +12,7 @@ use Rattle.exporter.specs.Asks.{after_run, asks_of, loads_in}
 use Rattle.exporter.specs.Pages.{checked_in, found_in, held_by, touched_in}
 use Rattle.exporter.specs.Walks.{Gathered, Reading, live_reading, past_reading, reads, walk}
 use Rattle.exporter.proofs.TakenLemmas.{taken_total}
-use Rattle.exporter.proofs.WalkLemmas.{chosen, loads_append, loads_few, reads_are, run_append, walk_cache, walk_checked, walk_counts, walk_found, walk_loads, walk_steps, walk_touched}
+use Rattle.exporter.proofs.WalkLemmas.{chosen, loads_append, loads_few, reads_are, run_append, walk_cache, walk_checked, walk_counts, walk_found, walk_loads, walk_touched}
 
 pub own_past : (x : Snapshot) → All (λ h. Contains (held_by x) h) x.past_batches
 own_past x k d at = Contains-append_left x.past_batches x.live_batches (slice_index_or x.past_batches k d) (All-contains_itself x.past_batches k d at)
@@ -117,3 +117,18 @@ module _ (x : Snapshot) where
         let one = walk_loads past_of x.past_batches (start cache steps) (omega arith) in
         let two = walk_loads live_of x.live_batches mid (omega (arith, one)) in
         omega (arith, h, one, two, all_loads, loads_few (asks_of (touched_in x)) cache, asks_long (touched_in x), touched_long, reads_are past_of x.past_batches, few_chosen past_of x.past_batches)
+
+pub start_of : (found : List (ℕ × Event)) (checked touched loads : ℕ) (cache : Caching) (steps : ℕ) → found ≡ [] → checked ≡ 0 → touched ≡ 0 → loads ≡ 0
+    → record { found = found; checked = checked; touched = touched; loads = loads; cache = cache; steps = steps } ≡ start cache steps
+start_of found checked touched loads cache steps a b d e =
+    ap (λ (x : List (ℕ × Event)). record { found = x; checked = checked; touched = touched; loads = loads; cache = cache; steps = steps }) a
+    ∙ ap (λ (x : ℕ). record { found = []; checked = x; touched = touched; loads = loads; cache = cache; steps = steps }) b
+    ∙ ap (λ (x : ℕ). record { found = []; checked = 0; touched = x; loads = loads; cache = cache; steps = steps }) d
+    ∙ ap (λ (x : ℕ). record { found = []; checked = 0; touched = 0; loads = x; cache = cache; steps = steps }) e
+
+pub end_of : (x : Snapshot) (past live : List Held) (cache : Caching) (steps : ℕ) (begin mid last : Gathered) → begin ≡ start cache steps → past ≡ x.past_batches → live ≡ x.live_batches
+    → mid ≡ walk (past_of x) past begin → last ≡ walk (live_of x) live mid → last ≡ end x cache steps
+end_of x past live cache steps begin mid last a b d e f =
+    f ∙ ap (λ (hs : List Held). walk (live_of x) hs mid) d
+    ∙ ap (λ (g : Gathered). walk (live_of x) x.live_batches g)
+    (e ∙ ap (λ (hs : List Held). walk (past_of x) hs begin) b ∙ ap (λ (g : Gathered). walk (past_of x) x.past_batches g) a)

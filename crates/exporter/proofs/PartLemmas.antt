@@ -1,8 +1,8 @@
 -- A batch of the past range, and what its part tells.
-use Rattle.std.proofs.Common.{◌≡◌, ◌≢◌, ℕ, zero, suc, ◌+◌, ◌-◌, ◌^◌, ◌<◌, ◌≤◌, Bool, true, false, not, cond, List, [], ◌∷◌, ◌++◌, Option, None, Some, length, map, filter, take, drop, min, refl, ap, sym, ◌∙◌, subst, arith, get_or, Result, Ok, Err, OnErr}
-use Rattle.std.specs.List.{All, flat_map, list_any, slice_get}
+use Rattle.std.proofs.Common.{◌≡◌, ℕ, zero, suc, ◌+◌, ◌-◌, ◌^◌, ◌<◌, ◌≤◌, Bool, true, false, List, [], ◌∷◌, ◌++◌, Option, Some, length, map, filter, ap, sym, ◌∙◌, subst, arith, Result, Ok, Err, OnErr}
+use Rattle.std.specs.List.{list_any, slice_get}
 use Rattle.std.specs.Option.{option_map}
-use Rattle.std.proofs.lemmas.List.{append-nil, append_assoc, length-append, length-map}
+use Rattle.std.proofs.lemmas.List.{append-nil, length-map}
 use Rattle.std.proofs.lemmas.List.Elements.{filter-append}
 use Rattle.std.proofs.lemmas.Grind.{flat_map-append}
 use Rattle.std.proofs.lemmas.Option.{slice_get-map}
@@ -18,7 +18,7 @@ use Rattle.query_plan.specs.Candidates.{maybe_bits, sure_bits}
 use Rattle.exporter.specs.Pages.{is_touched, is_unsure, may_match, unsure_in}
 use Rattle.exporter.specs.Rows.{in_range, rows_between}
 use Rattle.exporter.specs.Told.{IsNextCandidate, Tells}
-use Rattle.exporter.specs.Walks.{Gathered, Reading, asked, capped, decoded, one_of, past_reading, with_batch}
+use Rattle.exporter.specs.Walks.{Gathered, Reading, asked, capped, one_of, past_reading, with_batch}
 use Rattle.exporter.proofs.PageLemmas.{is_candidate, no_candidate, no_look, no_match, some_event}
 use Rattle.exporter.proofs.RowLemmas.{none_any, none_pass, rows_split, some_any}
 

@@ -1,6 +1,6 @@
 -- The batches of a part, and those behind them.
-use Rattle.std.proofs.Common.{◌≡◌, ℕ, zero, suc, ◌+◌, ◌-◌, ◌<◌, ◌≤◌, Bool, true, false, ◌&&◌, List, [], ◌∷◌, ◌++◌, length, drop, map, nat_le, nat_lt, refl, ap, sym, ◌∙◌, subst, arith, get_or, drop-cons}
-use Rattle.std.specs.List.{All, Contains, slice_index_or}
+use Rattle.std.proofs.Common.{◌≡◌, ℕ, zero, suc, ◌+◌, ◌<◌, ◌≤◌, Bool, true, false, ◌&&◌, List, [], ◌∷◌, ◌++◌, length, drop, map, nat_le, nat_lt, refl, ap, sym, ◌∙◌, subst, arith, get_or, drop-cons}
+use Rattle.std.specs.List.{All, slice_index_or}
 use Rattle.std.proofs.lemmas.List.{length-append}
 use Rattle.event_batch.specs.Contents.{Content}
 use Rattle.event_history.specs.Covers.{Cover, StandsIn, piece_end}

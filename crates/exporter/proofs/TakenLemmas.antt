@@ -1,6 +1,6 @@
 -- What holds of the snapshot of a take.
-use Rattle.std.proofs.Common.{◌≡◌, ℕ, zero, suc, ◌+◌, ◌-◌, ◌^◌, ◌<◌, ◌≤◌, Bool, true, false, not, ◌&&◌, cond, List, [], ◌∷◌, ◌++◌, Option, None, Some, length, map, filter, flat_map, take, drop, refl, ap, sym, ◌∙◌, subst, arith, min, max, get_or}
-use Rattle.std.specs.List.{All, Contains, count_by, slice_get, sum_by}
+use Rattle.std.proofs.Common.{◌≡◌, ℕ, zero, suc, ◌+◌, ◌-◌, ◌^◌, ◌<◌, ◌≤◌, Bool, true, false, not, ◌&&◌, cond, List, [], ◌∷◌, ◌++◌, Option, None, Some, length, filter, flat_map, take, drop, refl, ap, sym, ◌∙◌, subst, arith, min, max, get_or}
+use Rattle.std.specs.List.{All, Contains, slice_get, sum_by}
 use Rattle.std.proofs.lemmas.List.{length-append, length-drop, length-take}
 use Rattle.std.proofs.lemmas.List.Elements.{All-append, All-nil}
 use Rattle.std.proofs.lemmas.List.Sums.{count_by-le-length, length-filter, sum_by-append, sum_by_more_le}
@@ -9,21 +9,20 @@ use Rattle.query_meaning.specs.declared.expr.Expr.{Expr, roll-Expr}
 use Rattle.query_meaning.specs.declared.expr.Expr.TheOpen as level
 use Rattle.query_meaning.specs.declared.expr.Expr.TheFolds.{fold-roll-Expr}
 use Rattle.query_meaning.specs.Meaning.{level_holds}
-use Rattle.event_batch.specs.Contents.{Content, Spelled}
+use Rattle.event_batch.specs.Contents.{Spelled}
 use Rattle.event_history.specs.declared.entry.Entry.{Entry}
 use Rattle.event_history.specs.declared.entry.Limits.{Limits}
-use Rattle.event_history.specs.Choices.{Taking, again_of, holds_up, reaches, stop_at, taking_at}
+use Rattle.event_history.specs.Choices.{Taking, again_of, holds_up, reaches, stop_at}
 use Rattle.event_history.specs.Covers.{Cover}
-use Rattle.event_history.specs.Events.{Event, answer, events_in, events_of, is_within, matches, numbered, ranged}
-use Rattle.event_history.specs.Histories.{accepted, batch_count, content, event_count, events, first_of, is_indexed, row_count}
+use Rattle.event_history.specs.Events.{Event, answer, matches, numbered, ranged}
+use Rattle.event_history.specs.Histories.{accepted, batch_count, event_count, events, first_of, is_indexed, row_count}
 use Rattle.event_history.specs.Legal.{Legal}
-use Rattle.event_history.specs.Modes.{live_end}
 use Rattle.event_history.specs.Pieces.{Held, Piece, batch_answer, held_at, held_of, held_upto, parts_of}
 use Rattle.event_history.specs.Queries.{Registration, position, registration}
 use Rattle.event_history.proofs.AnswerLemmas.{lt_of}
 use Rattle.event_history.proofs.CoverLemmas.{held_some, parts_cover}
 use Rattle.event_history.proofs.SnapshotLemmas.{batches_answer, rows_before}
-use Rattle.event_history.proofs.TellingLemmas.{Standing, events_counted, least_passes, live_end_within, standing_of}
+use Rattle.event_history.proofs.TellingLemmas.{events_counted, least_passes, live_end_within, standing_of}
 use Rattle.history_core.specs.Snapshots.{IsSnapshot, Snapshot, WasTaken}
 use Rattle.exporter.specs.Laws.{FindsTheAnswers}
 use Rattle.exporter.specs.Pages.{checked_in, held_by, is_unsure, unsure_in}
@@ -125,8 +124,14 @@ in_range_few from to before h =
 unsure_few : (expr : Expr) (from to : ℕ) (held : List Held) → sum_by (unsure_in expr from to) held ≤ sum_by (λ h. length (in_range from to h)) held
 unsure_few expr from to [] = omega arith
 unsure_few expr from to (h ∷ held) =
-    omega (arith, unsure_few expr from to held, sum_by-append (unsure_in expr from to) (h ∷ []) held, sum_by-append (λ (x : Held). length (in_range from to x)) (h ∷ []) held,
-    length-filter (λ (y : ℕ × Event). is_unsure expr y.1) (in_range from to h), count_by-le-length (λ (y : ℕ × Event). is_unsure expr y.1) (in_range from to h))
+    omega (
+      arith,
+      unsure_few expr from to held,
+      sum_by-append (unsure_in expr from to) (h ∷ []) held,
+      sum_by-append (λ (x : Held). length (in_range from to x)) (h ∷ []) held,
+      length-filter (λ (y : ℕ × Event). is_unsure expr y.1) (in_range from to h),
+      count_by-le-length (λ (y : ℕ × Event). is_unsure expr y.1) (in_range from to h),
+    )
 
 -- Where the ranges lie.
 and_right : (a b : Bool) → (a && b) ≡ true → b ≡ true

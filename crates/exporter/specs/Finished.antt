@@ -1,5 +1,5 @@
 -- When a page is that of a snapshot.
-use Rattle.std.specs.Prelude.{◌≡◌, ℕ, Option, length}
+use Rattle.std.specs.Prelude.{◌≡◌, length}
 use Rattle.archive_cache.specs.Caches.{Caching}
 use Rattle.history_core.specs.Snapshots.{Snapshot}
 use Rattle.exporter.specs.declared.finishing.Page.{Page}

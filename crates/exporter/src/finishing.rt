@@ -83,14 +83,7 @@ fn page_of<L: Ledger>(
     // There are fewer than 2^64 of them, so no count stands still.
     let _ = batches_of(taken);
     let mut tally = Tally::new(alloc);
-    add_parts(
-        taken,
-        parts,
-        taken.past_batches(),
-        &mut tally,
-        cache,
-        steps,
-    )?;
+    add_parts(taken, parts, taken.past_batches(), &mut tally, cache, steps)?;
     add_batches(taken, taken.live_batches(), &mut tally, cache, steps)?;
     let past_to = taken.past().1;
     let live_to = taken.live().1;

@@ -1,10 +1,10 @@
-use Rattle.std.proofs.Common.{◌≡◌, ◌+◌, ◌-◌, ◌<◌, ◌≤◌, ◌^◌, ◌++◌, ℕ, List, filter, length, min, true, ap, subst, sym, ◌∙◌, arith}
+use Rattle.std.proofs.Common.{◌≡◌, ◌-◌, ◌++◌, ℕ, List, filter, length, true, ap, subst, ◌∙◌, arith}
 use Rattle.std.proofs.lemmas.List.{length-map}
 use Rattle.event_batch.specs.Contents.{Content, content_of}
 use Rattle.event_batch.specs.declared.batch.Batch.{Batch}
 use Rattle.event_history.specs.Events.{Event, event_of, events_of, matches}
 use Rattle.exporter.specs.Rows.{in_range, rows_between}
-use Rattle.exporter.specs.Walks.{Reading, gathered, live_reading}
+use Rattle.exporter.specs.Walks.{gathered, live_reading}
 use Rattle.exporter.proofs.PartLemmas.{read_adds, same_rows}
 use Rattle.exporter.proofs.RowLemmas.{rows_long}
 use Rattle.exporter.proofs.TakenLemmas.{taken_fits}

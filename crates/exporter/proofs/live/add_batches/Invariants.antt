@@ -1,4 +1,4 @@
-use Rattle.std.proofs.Common.{◌≡◌, ◌+◌, ◌≤◌, drop, length}
+use Rattle.std.proofs.Common.{◌≡◌, ◌+◌, ◌≤◌, drop}
 use Rattle.exporter.specs.Asks.{AgreesWith, KeepsOnly}
 use Rattle.exporter.specs.Pages.{held_by}
 use Rattle.exporter.specs.Walks.{gathered, live_reading, walk}

@@ -1,4 +1,4 @@
-use Rattle.std.proofs.Common.{◌≡◌, ◌+◌, ◌-◌, ◌<◌, ◌≤◌, ◌^◌, ◌++◌, ℕ, List, filter, length, min, true, ap, subst, sym, ◌∙◌, arith}
+use Rattle.std.proofs.Common.{◌≡◌, ◌+◌, ◌-◌, ◌^◌, ◌++◌, ℕ, List, filter, length, min, true, ap, subst, sym, ◌∙◌, arith}
 use Rattle.query_meaning.specs.declared.expr.Expr.{Expr}
 use Rattle.event_batch.specs.Contents.{Content, content_of}
 use Rattle.event_batch.specs.declared.batch.Batch.{Batch}

@@ -1,7 +1,6 @@
-use Rattle.std.proofs.Common.{◌≡◌, ◌+◌, ◌≤◌, ◌++◌, ◌∷◌, ℕ, List, map, drop, ap, sym, ◌∙◌, arith}
+use Rattle.std.proofs.Common.{◌≡◌, ◌+◌, List, map, drop, ap, sym, ◌∙◌, arith}
 use Rattle.std.specs.List.{Contains}
-use Rattle.event_history.specs.Covers.{Cover}
-use Rattle.event_history.specs.Pieces.{Held, Piece}
+use Rattle.event_history.specs.Pieces.{Held}
 use Rattle.partition.specs.Parts.{piece_of}
 use Rattle.exporter.specs.Pages.{held_by}
 use Rattle.exporter.specs.Walks.{Gathered, gathered, past_reading, reads, walk}
