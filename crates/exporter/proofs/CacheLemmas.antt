@@ -1,14 +1,14 @@
 -- What asks make of a cache.
-use Rattle.std.proofs.Common.{◌≡◌, ◌≢◌, ◌⊎◌, ℕ, zero, suc, ◌+◌, ◌-◌, ◌<◌, ◌≤◌, Bool, true, false, not, cond, List, [], ◌∷◌, ◌++◌, Option, None, Some, IfSome, is_none, is_some, length, map, take, nat_eq, refl, ap, sym, ◌∙◌, subst, arith, inl, inr, get_or, slice_index_or}
-use Rattle.std.specs.List.{All, Contains, count_by, sum_by}
+use Rattle.std.proofs.Common.{◌≡◌, ◌≢◌, ◌⊎◌, ℕ, zero, suc, ◌+◌, ◌≤◌, Bool, true, false, not, cond, List, [], ◌∷◌, ◌++◌, Option, None, Some, IfSome, is_none, is_some, length, take, nat_eq, refl, ap, sym, ◌∙◌, subst, arith, inl, inr, get_or, slice_index_or}
+use Rattle.std.specs.List.{Contains, count_by}
 use Rattle.std.specs.Map.{lookup, remove_entry}
-use Rattle.std.proofs.lemmas.List.{length-map, take_all}
+use Rattle.std.proofs.lemmas.List.{length-map, length-take, take_all}
 use Rattle.std.proofs.lemmas.List.Elements.{All-contains_itself}
 use Rattle.std.proofs.lemmas.List.Sums.{sum_by-append}
 use Rattle.std.proofs.lemmas.Bool.Decides.{eqb_tells}
 use Rattle.event_batch.specs.Contents.{Content}
 use Rattle.event_history.specs.Pieces.{Held}
-use Rattle.archive_cache.specs.Caches.{Agrees, Caching, Kept, after_ask, decodings, kept_as}
+use Rattle.archive_cache.specs.Caches.{Agrees, Caching, Kept, after_ask, kept_as}
 use Rattle.archive_cache.proofs.EntryLemmas.{absent_removed, found_removed}
 use Rattle.exporter.specs.Asks.{AgreesWith, KeepsOnly, KeptAreNotLoaded, after_run, asks_of, together}
 
@@ -17,9 +17,9 @@ taken_found : (n size : ℕ) (es : List Kept) (x : Content) → lookup (nat_eq n
 taken_found n zero es x h = absurd cc
 taken_found n (suc size) [] x h = h
 taken_found n (suc size) (e ∷ es) x h = (elim (nat_eq n e.0) as (λ b. cond b (Some e.1) (lookup (nat_eq n) (take size es)) ≡ Some x → cond b (Some e.1) (lookup (nat_eq n) es) ≡ Some x) [
-    | true ↦ λ same. same
-    | false ↦ λ on. taken_found n size es x on
-  ]) h
+  | true ↦ λ same. same
+  | false ↦ λ on. taken_found n size es x on
+]) h
 
 not_same : (n m : ℕ) → n ≢ m → nat_eq n m ≡ false
 not_same n m ne = elim (eqb_tells n m) as (λ _. nat_eq n m ≡ false) [ inl same ↦ absurd (ne same.1) | inr apart ↦ apart.0 ]
@@ -120,3 +120,79 @@ pub agree_asked : (held : List Held) (h : Held) (n : ℕ) (y : Content) (old new
 agree_asked held h n y old new there numbered number content e agree =
     subst (λ (c : Caching). AgreesWith held c) (sym (e ∙ ap (λ (i : ℕ). after_ask i y old) number ∙ ap (λ (x : Content). after_ask h.no x old) content))
     (agree_more held h old there numbered agree)
+
+-- Kept batches stay where there is room.
+kept_more : (n m : ℕ) (y : Content) (c : Caching) → length (remove_entry (nat_eq m) c.entries) + 1 ≤ c.size → is_some (kept_as n c) ≡ true
+    → is_some (kept_as n (after_ask m y c)) ≡ true
+kept_more n m y c room kept =
+    let whole : (after_ask m y c).entries ≡ (m, y) ∷ remove_entry (nat_eq m) c.entries = take_all c.size ((m, y) ∷ remove_entry (nat_eq m) c.entries) (omega (arith, room)) in
+    ap (λ (es : List Kept). is_some (lookup (nat_eq n) es)) whole
+    ∙ elim (eqb_tells n m) as (λ _. is_some (lookup (nat_eq n) ((m, y) ∷ remove_entry (nat_eq m) c.entries)) ≡ true) [
+      | inl same ↦ ap (λ (b : Bool). is_some (cond b (Some y) (lookup (nat_eq n) (remove_entry (nat_eq m) c.entries)))) same.0
+      | inr apart ↦
+          ap (λ (b : Bool). is_some (cond b (Some y) (lookup (nat_eq n) (remove_entry (nat_eq m) c.entries)))) apart.0
+          ∙ ap (λ (o : Option Content). is_some o) (other_removed n m c.entries apart.1) ∙ kept
+    ]
+
+none_of : (o : Option Content) → is_none o ≡ not (is_some o)
+none_of None = refl
+none_of (Some x) = refl
+
+none_fewer : (b : Bool) → b ≡ true → cond (not b) 1 0 ≤ 0
+none_fewer true e = omega arith
+none_fewer false e = absurd cc
+
+fewer : (a b : Bool) → (a ≡ true → b ≡ true) → cond (not b) 1 0 ≤ cond (not a) 1 0
+fewer true b h = none_fewer b (h refl)
+fewer false true h = omega arith
+fewer false false h = omega arith
+
+missing : Caching → Kept → ℕ
+missing c ask = cond (is_none (kept_as ask.0 c)) 1 0
+
+missing_less : (c d : Caching) → ((n : ℕ) → is_some (kept_as n c) ≡ true → is_some (kept_as n d) ≡ true) → (ask : Kept) → missing d ask ≤ missing c ask
+unfolding missing
+missing_less c d keeps ask =
+    let count : Bool → ℕ = λ b. cond b 1 0 in
+    subst (λ (b : Bool). count b ≤ count (is_none (kept_as ask.0 c))) (sym (none_of (kept_as ask.0 d)))
+    (subst (λ (b : Bool). count (not (is_some (kept_as ask.0 d))) ≤ count b) (sym (none_of (kept_as ask.0 c)))
+    (fewer (is_some (kept_as ask.0 c)) (is_some (kept_as ask.0 d)) (keeps ask.0)))
+
+count_one : (c : Caching) (ask : Kept) (asks : List Kept) → count_by (λ a. is_none (kept_as a.0 c)) (ask ∷ asks) ≡ missing c ask + count_by (λ a. is_none (kept_as a.0 c)) asks
+unfolding missing
+count_one c ask asks = sum_by-append (λ a. cond (is_none (kept_as a.0 c)) 1 0) (ask ∷ []) asks ∙ omega arith
+
+count_less : (c d : Caching) → ((n : ℕ) → is_some (kept_as n c) ≡ true → is_some (kept_as n d) ≡ true) → (asks : List Kept)
+    → count_by (λ a. is_none (kept_as a.0 d)) asks ≤ count_by (λ a. is_none (kept_as a.0 c)) asks
+count_less c d keeps [] = omega arith
+count_less c d keeps (ask ∷ asks) =
+    omega (arith, count_one c ask asks, count_one d ask asks, missing_less c d keeps ask, count_less c d keeps asks)
+
+removed_long : (m : ℕ) (es : List Kept) (o : Option Content) → lookup (nat_eq m) es ≡ o → length (remove_entry (nat_eq m) es) + 1 ≡ length es + cond (is_none o) 1 0
+removed_long m es None e = let same : length (remove_entry (nat_eq m) es) ≡ length es = ap (λ (xs : List Kept). length xs) (absent_removed m es e) in omega (arith, same)
+removed_long m es (Some x) e = let one : length (remove_entry (nat_eq m) es) + 1 ≡ length es = found_removed m es x e in omega (arith, one)
+
+taken_few : (n : ℕ) (es : List Kept) → length (take n es) ≤ length es
+taken_few n es = omega (arith, length-take n es)
+
+stays : (asks : List Kept) (c : Caching) (n : ℕ) → together asks c ≤ c.size → is_some (kept_as n c) ≡ true → is_some (kept_as n (after_run asks c)) ≡ true
+unfolding missing
+stays [] c n room kept = kept
+stays (ask ∷ asks) c n room kept =
+    let d : Caching = after_ask ask.0 ask.1 c in
+    let all = removed_long ask.0 c.entries (kept_as ask.0 c) refl in
+    let one = count_one c ask asks in
+    let fits : length (remove_entry (nat_eq ask.0) c.entries) + 1 ≤ c.size = omega (arith, all, one, room) in
+    let few : length d.entries ≤ suc (length (remove_entry (nat_eq ask.0) c.entries)) = taken_few c.size ((ask.0, ask.1) ∷ remove_entry (nat_eq ask.0) c.entries) in
+    let long : length d.entries ≤ length (remove_entry (nat_eq ask.0) c.entries) + 1 = omega (arith, few) in
+    let less = count_less c d (λ k is. kept_more k ask.0 ask.1 c fits is) asks in
+    stays asks d n (omega (arith, all, one, room, long, less)) (kept_more n ask.0 ask.1 c fits kept)
+
+count_front : (c : Caching) (front back : List Kept) → count_by (λ a. is_none (kept_as a.0 c)) front ≤ count_by (λ a. is_none (kept_as a.0 c)) (front ++ back)
+count_front c front back = omega (arith, sum_by-append (λ a. cond (is_none (kept_as a.0 c)) 1 0) front back)
+
+pub not_loaded : (asks : List Kept) (c : Caching) → KeptAreNotLoaded asks c
+not_loaded asks c room front back ask e kept =
+    let part : count_by (λ a. is_none (kept_as a.0 c)) front ≤ count_by (λ a. is_none (kept_as a.0 c)) asks =
+    subst (λ (xs : List Kept). count_by (λ a. is_none (kept_as a.0 c)) front ≤ count_by (λ a. is_none (kept_as a.0 c)) xs) (sym e) (count_front c front (ask ∷ back)) in
+    ap (λ (b : Bool). cond b 0 1) (stays front c ask.0 (omega (arith, part, room)) kept)

@@ -1,5 +1,8 @@
 pub mod CacheLemmas
+pub mod FinishLemmas
 pub mod PageLemmas
+pub mod PartLemmas
 pub mod RowLemmas
+pub mod SplitLemmas
 pub mod TakenLemmas
 pub mod WalkLemmas

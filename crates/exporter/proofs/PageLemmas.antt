@@ -1,14 +1,13 @@
 -- The rows that are found, and those that are looked at.
-use Rattle.std.proofs.Common.{◌≡◌, ◌≢◌, ℕ, zero, suc, ◌+◌, ◌-◌, ◌^◌, ◌<◌, ◌≤◌, Bool, true, false, not, ◌&&◌, cond, List, [], ◌∷◌, ◌++◌, Option, None, Some, length, map, filter, take, drop, refl, ap, sym, ◌∙◌, subst, arith, get_or}
+use Rattle.std.proofs.Common.{◌≡◌, ◌≢◌, ℕ, zero, suc, ◌+◌, ◌-◌, ◌<◌, ◌≤◌, Bool, true, false, not, ◌&&◌, cond, List, [], ◌∷◌, ◌++◌, Option, Some, length, filter, take, drop, refl, ap, sym, ◌∙◌, arith, get_or}
 use mir.Val.{bool_byte}
-use Rattle.std.specs.List.{All, Contains, count_by, list_any, prefix_len, slice_get}
+use Rattle.std.specs.List.{slice_get}
 use Rattle.std.specs.Option.{option_map}
-use Rattle.std.proofs.lemmas.List.{append-nil, append_assoc, length-append, length-drop, length-map, length-take}
+use Rattle.std.proofs.lemmas.List.{append-nil, append_assoc, length-append, length-map, length-take}
 use Rattle.std.proofs.lemmas.List.Elements.{filter-append}
 use Rattle.std.proofs.lemmas.List.Sums.{count_by-le-length, length-filter}
 use Rattle.std.proofs.lemmas.Option.{get_or_from_slice_get, slice_get-map, slice_get_read, slice_get_within}
 use Rattle.vast_value.specs.declared.cell.Cell.{Cell}
-use Rattle.vast_value.specs.declared.layout.Layout.{Layout}
 use Rattle.vast_value.specs.Headings.{heading_of}
 use Rattle.query_meaning.specs.declared.expr.Expr.{Expr}
 use Rattle.query_meaning.specs.Meaning.{holds}
@@ -20,7 +19,7 @@ use Rattle.event_batch.specs.Contents.{content_of}
 use Rattle.event_history.specs.Events.{Event, event_of, events_of, matches, numbered}
 use Rattle.exporter.specs.Pages.{is_unsure, may_match}
 use Rattle.exporter.specs.Rows.{rows_between}
-use Rattle.exporter.specs.Told.{IsNextCandidate, Tells}
+use Rattle.exporter.specs.Told.{Tells}
 use Rattle.exporter.proofs.RowLemmas.{none_pass, one_row, rows_split}
 
 -- What surely matches matches, and what matches may.
@@ -143,8 +142,13 @@ numbered_length n (x ∷ xs) = omega (arith, numbered_length (n + 1) xs)
 
 pub rows_few : (test : Event → Bool) (first low high : ℕ) (events : List Event) → length (filter (λ (x : ℕ × Event). test x.1) (rows_between first low high events)) ≤ high - low
 rows_few test first low high events =
-    omega (arith, length-filter (λ (x : ℕ × Event). test x.1) (rows_between first low high events), count_by-le-length (λ (x : ℕ × Event). test x.1) (rows_between first low high events),
-    numbered_length (first + low) (take (high - low) (drop low events)), length-take (high - low) (drop low events))
+    omega (
+      arith,
+      length-filter (λ (x : ℕ × Event). test x.1) (rows_between first low high events),
+      count_by-le-length (λ (x : ℕ × Event). test x.1) (rows_between first low high events),
+      numbered_length (first + low) (take (high - low) (drop low events)),
+      length-take (high - low) (drop low events),
+    )
 
 pub events_long : (b : Batch) → length (events_of (content_of b)) ≡ length b.rows
 events_long b = length-map b.rows (event_of (heading_of b.layout))

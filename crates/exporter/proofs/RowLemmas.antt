@@ -1,26 +1,14 @@
 -- The rows of a batch.
-use Rattle.std.proofs.Common.{◌≡◌, ◌≢◌, ℕ, zero, suc, ◌+◌, ◌-◌, ◌<◌, ◌≤◌, Bool, true, false, not, ◌&&◌, ◌||◌, cond, List, [], ◌∷◌, ◌++◌, Option, None, Some, length, map, filter, take, drop, refl, ap, sym, ◌∙◌, subst, arith, max, min, nat_lt, nat_le, inl, inr, get_or, drop-cons}
+use Rattle.std.proofs.Common.{◌≡◌, ℕ, zero, suc, ◌+◌, ◌-◌, ◌<◌, ◌≤◌, Bool, true, false, ◌&&◌, ◌||◌, cond, List, [], ◌∷◌, ◌++◌, Some, length, filter, take, drop, refl, ap, sym, ◌∙◌, arith, min, nat_lt, nat_le, inl, inr, get_or, drop-cons}
 use Rattle.std.specs.List.{slice_get, list_any}
-use Rattle.std.proofs.lemmas.List.{append-nil, append_assoc, drop_all, drop-drop, length-append, length-drop, length-map, length-take, map-append, take-append-drop, take_all}
+use Rattle.std.proofs.lemmas.List.{append-nil, drop-drop, length-drop, length-take, take_all}
 use Rattle.std.proofs.lemmas.List.Elements.{filter-append}
-use Rattle.std.proofs.lemmas.Grind.{flat_map-append}
-use Rattle.std.proofs.lemmas.Option.{slice_get-get_or, slice_get-map, slice_get_within}
+use Rattle.std.proofs.lemmas.Option.{slice_get-get_or, slice_get_within}
 use Rattle.std.proofs.lemmas.Bool.Decides.{leb_tells}
 use Rattle.std.proofs.Math.Seq.{take-add}
-use Rattle.query_meaning.specs.declared.expr.Expr.{Expr}
-use Rattle.query_meaning.specs.Meaning.{holds}
-use Rattle.query_meaning.specs.Sure.{Bounds, maybe, sure}
-use Rattle.query_meaning.proofs.SureLemmas.{bounded}
-use Rattle.column_index.specs.declared.kept.Pair.{Pair}
-use Rattle.event_batch.specs.Contents.{Content}
-use Rattle.event_history.specs.Covers.{StandsIn}
-use Rattle.event_history.specs.Events.{Event, events_in, events_of, is_within, matches, numbered}
-use Rattle.event_history.specs.Pieces.{Held, Piece, piece_events}
+use Rattle.event_history.specs.Events.{Event, is_within, numbered}
 use Rattle.event_history.proofs.AnswerLemmas.{le_false, le_true, lt_false, lt_true, numbered_append}
-use Rattle.query_plan.specs.Candidates.{maybe_bits, sure_bits}
-use Rattle.exporter.specs.Pages.{is_unsure, may_match}
 use Rattle.exporter.specs.Rows.{rows_between}
-use Rattle.exporter.specs.Told.{IsNextCandidate, Tells}
 
 keeps_all : (p : ℕ × Event → Bool) (n : ℕ) (xs : List Event) → ((id : ℕ) (x : Event) → n ≤ id → id < n + length xs → p (id, x) ≡ true)
     → filter p (numbered n xs) ≡ numbered n xs
@@ -47,9 +35,9 @@ outside : (from to id : ℕ) (x : Event) → (from ≤ id → id < to → ⊥) �
 outside from to id x out =
     elim (leb_tells from id) as (λ _. is_within from to (id, x) ≡ false) [
       | inl h ↦ elim (leb_tells to id) as (λ _. is_within from to (id, x) ≡ false) [
-          | inl k ↦ ap (λ (b : Bool). nat_le from id && b) (lt_false id to k.1) ∙ and_false (nat_le from id)
-          | inr k ↦ absurd (out h.1 k.1)
-        ]
+        | inl k ↦ ap (λ (b : Bool). nat_le from id && b) (lt_false id to k.1) ∙ and_false (nat_le from id)
+        | inr k ↦ absurd (out h.1 k.1)
+      ]
       | inr h ↦ ap (λ (b : Bool). b && nat_lt id to) (le_false from id h.1)
     ]
 
@@ -179,3 +167,11 @@ some_any test first low at high e xs h k is pass =
     ∙ ap (λ (ys : List (ℕ × Event)). ys ++ back) (one_row first at e xs within got)))
     ∙ any_append (λ (x : ℕ × Event). test x.1) front ((first + at, e) ∷ back)
     (ap (λ (b : Bool). b || list_any (λ (x : ℕ × Event). test x.1) back) pass)
+
+numbered_long : (n : ℕ) (xs : List Event) → length (numbered n xs) ≡ length xs
+numbered_long n [] = refl
+numbered_long n (x ∷ xs) = omega (arith, numbered_long (n + 1) xs)
+
+pub rows_long : (first low high : ℕ) (xs : List Event) → low ≤ high → high ≤ length xs → length (rows_between first low high xs) ≡ high - low
+rows_long first low high xs h k =
+    omega (arith, h, k, numbered_long (first + low) (take (high - low) (drop low xs)), length-take (high - low) (drop low xs), length-drop low xs)

@@ -1,6 +1,6 @@
 -- What holds of the snapshot of a take.
-use Rattle.std.proofs.Common.{◌≡◌, ℕ, zero, suc, ◌+◌, ◌-◌, ◌^◌, ◌<◌, ◌≤◌, Bool, true, false, not, ◌&&◌, cond, List, [], ◌∷◌, ◌++◌, Option, None, Some, length, map, filter, flat_map, take, drop, refl, ap, sym, ◌∙◌, subst, arith, min, max, get_or}
-use Rattle.std.specs.List.{All, Contains, count_by, slice_get, sum_by}
+use Rattle.std.proofs.Common.{◌≡◌, ℕ, zero, suc, ◌+◌, ◌-◌, ◌^◌, ◌<◌, ◌≤◌, Bool, true, false, not, ◌&&◌, cond, List, [], ◌∷◌, ◌++◌, Option, None, Some, length, filter, flat_map, take, drop, refl, ap, sym, ◌∙◌, subst, arith, min, max, get_or}
+use Rattle.std.specs.List.{All, Contains, slice_get, sum_by}
 use Rattle.std.proofs.lemmas.List.{length-append, length-drop, length-take}
 use Rattle.std.proofs.lemmas.List.Elements.{All-append, All-nil}
 use Rattle.std.proofs.lemmas.List.Sums.{count_by-le-length, length-filter, sum_by-append, sum_by_more_le}
@@ -9,22 +9,22 @@ use Rattle.query_meaning.specs.declared.expr.Expr.{Expr, roll-Expr}
 use Rattle.query_meaning.specs.declared.expr.Expr.TheOpen as level
 use Rattle.query_meaning.specs.declared.expr.Expr.TheFolds.{fold-roll-Expr}
 use Rattle.query_meaning.specs.Meaning.{level_holds}
-use Rattle.event_batch.specs.Contents.{Content, Spelled}
+use Rattle.event_batch.specs.Contents.{Spelled}
 use Rattle.event_history.specs.declared.entry.Entry.{Entry}
 use Rattle.event_history.specs.declared.entry.Limits.{Limits}
-use Rattle.event_history.specs.Choices.{Taking, again_of, holds_up, reaches, stop_at, taking_at}
+use Rattle.event_history.specs.Choices.{Taking, again_of, holds_up, reaches, stop_at}
 use Rattle.event_history.specs.Covers.{Cover}
-use Rattle.event_history.specs.Events.{Event, answer, events_in, events_of, is_within, matches, numbered, ranged}
-use Rattle.event_history.specs.Histories.{accepted, batch_count, content, event_count, events, first_of, is_indexed, row_count}
+use Rattle.event_history.specs.Events.{Event, answer, matches, numbered, ranged}
+use Rattle.event_history.specs.Histories.{accepted, batch_count, event_count, events, first_of, is_indexed, row_count}
 use Rattle.event_history.specs.Legal.{Legal}
-use Rattle.event_history.specs.Modes.{live_end}
 use Rattle.event_history.specs.Pieces.{Held, Piece, batch_answer, held_at, held_of, held_upto, parts_of}
 use Rattle.event_history.specs.Queries.{Registration, position, registration}
 use Rattle.event_history.proofs.AnswerLemmas.{lt_of}
 use Rattle.event_history.proofs.CoverLemmas.{held_some, parts_cover}
 use Rattle.event_history.proofs.SnapshotLemmas.{batches_answer, rows_before}
-use Rattle.event_history.proofs.TellingLemmas.{Standing, events_counted, least_passes, live_end_within, standing_of}
+use Rattle.event_history.proofs.TellingLemmas.{events_counted, least_passes, live_end_within, standing_of}
 use Rattle.history_core.specs.Snapshots.{IsSnapshot, Snapshot, WasTaken}
+use Rattle.exporter.specs.Laws.{FindsTheAnswers}
 use Rattle.exporter.specs.Pages.{checked_in, held_by, is_unsure, unsure_in}
 use Rattle.exporter.specs.Rows.{in_range}
 use Rattle.exporter.proofs.CacheLemmas.{AreNumbered}
@@ -124,8 +124,14 @@ in_range_few from to before h =
 unsure_few : (expr : Expr) (from to : ℕ) (held : List Held) → sum_by (unsure_in expr from to) held ≤ sum_by (λ h. length (in_range from to h)) held
 unsure_few expr from to [] = omega arith
 unsure_few expr from to (h ∷ held) =
-    omega (arith, unsure_few expr from to held, sum_by-append (unsure_in expr from to) (h ∷ []) held, sum_by-append (λ (x : Held). length (in_range from to x)) (h ∷ []) held,
-    length-filter (λ (y : ℕ × Event). is_unsure expr y.1) (in_range from to h), count_by-le-length (λ (y : ℕ × Event). is_unsure expr y.1) (in_range from to h))
+    omega (
+      arith,
+      unsure_few expr from to held,
+      sum_by-append (unsure_in expr from to) (h ∷ []) held,
+      sum_by-append (λ (x : Held). length (in_range from to x)) (h ∷ []) held,
+      length-filter (λ (y : ℕ × Event). is_unsure expr y.1) (in_range from to h),
+      count_by-le-length (λ (y : ℕ × Event). is_unsure expr y.1) (in_range from to h),
+    )
 
 -- Where the ranges lie.
 and_right : (a b : Bool) → (a && b) ≡ true → b ≡ true
@@ -140,10 +146,11 @@ stops position from before (Some b) h k =
     omega (arith, lt_of (max position (first_of b before)) (min from (first_of (b + 1) before)) reach)
 
 module _ (x : Snapshot) (limits : Limits) (before : List Entry) (q : ℕ) (legal : Legal limits before) where
-  total : (o : Option Registration) → registration q before ≡ o → IsSnapshot limits.group before q x o → checked_in x ≤ event_count before
-  total None e is = absurd is
-  total (Some g) e is =
-      let t : Taking = taking_at g (position q before) before in
+  -- the past range ends where the live one begins or before, and both where the events end
+  lie : (o : Option Registration) → registration q before ≡ o → IsSnapshot limits.group before q x o
+      → (x.taking.past_to ≤ event_count before) × (x.taking.live_to ≤ event_count before) × (x.taking.past_to ≤ x.taking.live_from)
+  lie None e is = absurd is
+  lie (Some g) e is =
       let s = standing_of limits before q g legal e in
       let past_to : x.taking.past_to ≤ g.from =
       subst (λ (y : Taking). y.past_to ≤ g.from) (sym is.0)
@@ -152,13 +159,37 @@ module _ (x : Snapshot) (limits : Limits) (before : List Entry) (q : ℕ) (legal
       let live_from : g.from ≤ x.taking.live_from = subst (λ (y : Taking). g.from ≤ y.live_from) (sym is.0) s.live_from in
       let live_to : x.taking.live_to ≤ event_count before =
       subst (λ (y : Taking). y.live_to ≤ event_count before) (sym is.0) (live_end_within g.mode g.from (event_count before) s.known) in
+      (omega (arith, past_to, s.known), live_to, omega (arith, past_to, live_from))
+
+  held_over : (o : Option Registration) → IsSnapshot limits.group before q x o
+      → (x.past_batches ≡ held_of x.taking.past_from x.taking.past_to before) × (x.live_batches ≡ held_of x.taking.live_from x.taking.live_to before)
+  held_over None is = absurd is
+  held_over (Some g) is = (is.2, is.3)
+
+  total : IsSnapshot limits.group before q x (registration q before) → checked_in x ≤ event_count before
+  total is =
+      let r = lie (registration q before) refl is in
+      let h = held_over (registration q before) is in
       let past : sum_by (λ h. length (in_range x.taking.past_from x.taking.past_to h)) x.past_batches ≤ x.taking.past_to - x.taking.past_from =
-      subst (λ (hs : List Held). sum_by (λ h. length (in_range x.taking.past_from x.taking.past_to h)) hs ≤ x.taking.past_to - x.taking.past_from) (sym is.2)
-      (in_range_few x.taking.past_from x.taking.past_to before (omega (arith, past_to, s.known))) in
+      subst (λ (hs : List Held). sum_by (λ h. length (in_range x.taking.past_from x.taking.past_to h)) hs ≤ x.taking.past_to - x.taking.past_from) (sym h.0)
+      (in_range_few x.taking.past_from x.taking.past_to before r.0) in
       let live : sum_by (λ h. length (in_range x.taking.live_from x.taking.live_to h)) x.live_batches ≤ x.taking.live_to - x.taking.live_from =
-      subst (λ (hs : List Held). sum_by (λ h. length (in_range x.taking.live_from x.taking.live_to h)) hs ≤ x.taking.live_to - x.taking.live_from) (sym is.3)
-      (in_range_few x.taking.live_from x.taking.live_to before live_to) in
-      omega (arith, past, live, unsure_few x.taking.expr x.taking.past_from x.taking.past_to x.past_batches, past_to, live_from, live_to, s.known)
+      subst (λ (hs : List Held). sum_by (λ h. length (in_range x.taking.live_from x.taking.live_to h)) hs ≤ x.taking.live_to - x.taking.live_from) (sym h.1)
+      (in_range_few x.taking.live_from x.taking.live_to before r.1) in
+      omega (arith, past, live, unsure_few x.taking.expr x.taking.past_from x.taking.past_to x.past_batches, r.0, r.1, r.2)
 
 pub taken_total : (x : Snapshot) → WasTaken x → checked_in x ≤ 2 ^ 64 - 1
-taken_total x w = omega (arith, total x w.limits w.before w.query w.legal (registration w.query w.before) refl w.snapshot, w.counted)
+taken_total x w = omega (arith, total x w.limits w.before w.query w.legal w.snapshot, w.counted)
+
+-- The answers.
+pub finds : (limits : Limits) (before : List Entry) (q : ℕ) (x : Snapshot) → FindsTheAnswers limits before q x
+finds limits before q x legal is =
+    let t = x.taking in
+    let r = lie x limits before q legal (registration q before) refl is in
+    let h = held_over x limits before q legal (registration q before) is in
+    let one : flat_map (batch_answer (matches t.expr) t.past_from t.past_to) x.past_batches ≡ answer t.expr (events before) t.past_from t.past_to =
+    ap (λ (hs : List Held). flat_map (batch_answer (matches t.expr) t.past_from t.past_to) hs) h.0 ∙ batches_answer before t.expr t.past_from t.past_to r.0 in
+    let two : flat_map (batch_answer (matches t.expr) t.live_from t.live_to) x.live_batches ≡ answer t.expr (events before) t.live_from t.live_to =
+    ap (λ (hs : List Held). flat_map (batch_answer (matches t.expr) t.live_from t.live_to) hs) h.1 ∙ batches_answer before t.expr t.live_from t.live_to r.1 in
+    ap (λ (ys : List (ℕ × Event)). ys ++ flat_map (batch_answer (matches t.expr) t.live_from t.live_to) x.live_batches) one
+    ∙ ap (λ (ys : List (ℕ × Event)). answer t.expr (events before) t.past_from t.past_to ++ ys) two

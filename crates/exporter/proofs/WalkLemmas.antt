@@ -1,11 +1,10 @@
 -- What a page has after some batches.
-use Rattle.std.proofs.Common.{◌≡◌, ℕ, zero, suc, ◌+◌, ◌-◌, ◌^◌, ◌<◌, ◌≤◌, Bool, true, false, cond, if◌then◌else◌, List, [], ◌∷◌, ◌++◌, filter, flat_map, map, length, drop, is_some, refl, ap, sym, ◌∙◌, subst, arith, min, get_or, drop-cons}
+use Rattle.std.proofs.Common.{◌≡◌, ℕ, suc, ◌+◌, ◌-◌, ◌^◌, ◌<◌, ◌≤◌, Bool, true, false, cond, if◌then◌else◌, List, [], ◌∷◌, ◌++◌, filter, flat_map, length, drop, is_some, refl, ap, sym, ◌∙◌, arith, get_or, drop-cons}
 use Rattle.std.specs.List.{sum_by}
 use Rattle.std.proofs.lemmas.List.{append-nil, append_assoc}
 use Rattle.std.proofs.lemmas.List.Sums.{sum_by-append}
-use Rattle.event_history.specs.Events.{Event}
 use Rattle.event_history.specs.Pieces.{Held}
-use Rattle.archive_cache.specs.Caches.{Caching, Kept, after_ask, decodings, kept_as}
+use Rattle.archive_cache.specs.Caches.{Caching, Kept, after_ask, kept_as}
 use Rattle.exporter.specs.Asks.{after_run, asks_of, loads_in}
 use Rattle.exporter.specs.Walks.{Gathered, Reading, capped, decoded, one_of, reads, walk, with_batch}
 

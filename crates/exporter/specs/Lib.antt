@@ -1,4 +1,5 @@
 pub mod Asks
+pub mod Finished
 pub mod Founds
 pub mod Laws
 pub mod Pages

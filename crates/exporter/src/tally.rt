@@ -1,12 +1,12 @@
 //! What was gathered of a page so far.
-ghost use Rattle.std.specs.Prelude.{◌≡◌, ◌+◌, ◌^◌, ◌-◌, [], Contains, IfOk, OnErr, OnOk, min};
+ghost use Rattle.std.specs.Prelude.{◌≡◌, ◌+◌, [], Contains, IfOk, OnOk};
 ghost use Rattle.std.specs.Arc.{arc_value};
 ghost use Rattle.archive_cache.specs.Caches.{decodings};
 ghost use Rattle.event_batch.specs.Contents.{content_of};
 ghost use Rattle.history_core.specs.Snapshots.{WasTaken};
 ghost use Rattle.exporter.specs.Asks.{AgreesWith, KeepsOnly};
 ghost use Rattle.exporter.specs.Pages.{held_by};
-ghost use Rattle.exporter.specs.Walks.{asked, capped, gathered};
+ghost use Rattle.exporter.specs.Walks.{asked, gathered};
 
 use crate::founds::Founds;
 use archive_cache::Cache;
@@ -41,6 +41,27 @@ impl Tally {
             touched: 0,
             loads: 0,
         }
+    }
+
+    /// How many events were looked at.
+    pub(crate) fn checked(&self) -> u64
+        ensures { result ≡ self.now.checked }
+    {
+        self.checked
+    }
+
+    /// How many batches were read.
+    pub(crate) fn touched(&self) -> u64
+        ensures { result ≡ self.now.touched }
+    {
+        self.touched
+    }
+
+    /// How many of them weren't kept.
+    pub(crate) fn loads(&self) -> u64
+        ensures { result ≡ self.now.loads }
+    {
+        self.loads
     }
 
     /// Asks the cache for a batch.

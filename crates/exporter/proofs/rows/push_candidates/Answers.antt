@@ -1,4 +1,4 @@
-use Rattle.std.proofs.Common.{◌≡◌, ◌+◌, ◌-◌, ◌≤◌, ◌<◌, ℕ, List, Some, length, arith, false}
+use Rattle.std.proofs.Common.{◌≡◌, ◌+◌, ◌≤◌, ◌<◌, ℕ, List, Some, length, arith, false}
 use Rattle.std.specs.List.{slice_get}
 use Rattle.event_batch.specs.Contents.{content_of}
 use Rattle.event_history.specs.Events.{Event, events_of, matches}

@@ -1,4 +1,4 @@
-use Rattle.std.proofs.Common.{◌≡◌, ◌-◌, min, length, map, sym, ◌∙◌, arith, ap, ℕ}
+use Rattle.std.proofs.Common.{◌≡◌, ◌-◌, min, length, ◌∙◌, arith, ap, ℕ}
 use Rattle.std.proofs.lemmas.List.{length-map}
 use Rattle.event_history.specs.Events.{event_of, events_of}
 use Rattle.exporter.proofs.RowLemmas.{range_rows}

@@ -1,4 +1,4 @@
-use Rattle.std.proofs.Common.{ℕ, ap, sym, ◌∙◌}
+use Rattle.std.proofs.Common.{ap}
 use Rattle.event_batch.specs.Contents.{Spelled}
 use Rattle.exporter.specs.Pages.{held_by}
 use Rattle.exporter.proofs.CacheLemmas.{agree_asked, only_asked}
