@@ -4,5 +4,6 @@ pub mod Founds
 pub mod Laws
 pub mod Pages
 pub mod Rows
+pub mod Stores
 pub mod Told
 pub mod Walks

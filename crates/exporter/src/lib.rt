@@ -13,4 +13,4 @@ mod tally;
 
 pub use finishing::{Page, finish};
 pub use founds::{Found, Founds};
-pub use laws::{finds_the_answers, kept_are_not_loaded};
+pub use laws::{a_cache_serves_a_store, finds_the_answers, kept_are_not_loaded};

@@ -25,6 +25,7 @@ impl Store {
     pub fn take(&mut self, seat: u32, session: Session) -> Result<Taken, (Session, TakeEnd)>
         requires { IsRegistered self.old session.query }
         ensures step { Makes self.old self.new seat (s.Take session.query) (take_reply result) }
+        ensures snapshot { IfOk result (λ t. IsSnapshot self.old.limits.group (past self.old.history) session.query t.snapshot (registration session.query (past self.old.history))) }
         ensures told { IfOk result (λ t. TellsUpTo (past self.new.history) session.query t.snapshot.taking (registration session.query (past self.new.history))) }
         ensures known { IsRegistered self.new session.query }
         ensures session { IfOk result (λ t. t.session ≡ session) }
