@@ -5,6 +5,7 @@ mod batches;
 mod bitmaps;
 mod indexes;
 mod packets;
+mod pages;
 mod parts;
 mod stores;
 mod turns;
@@ -12,15 +13,17 @@ mod turns;
 use bitmaps::Spent;
 use bits_law::Order;
 use indexes::{Plan, Work};
+use pages::{Asking, Stage};
 use parts::Question;
 use runs_bitmap::RunsBitmap;
 use std::alloc::Global;
 use std::process::ExitCode;
 use std::{env, io};
+use vast_io::{DiskOpener, Opener};
 use word_bitmap::WordBitmap;
 
 const USAGE: &str =
-    "measure turns THREADS TURNS, decode PACKETS, bitmaps BITS ONE_IN, batches ROWS ENCODES UNPACKS, indexes WORK RELATION COLUMN END ROWS PART TIMES, parts WORK GROUPS TIMES, store BATCHES QUERIES";
+    "measure turns THREADS TURNS, decode PACKETS, bitmaps BITS ONE_IN, batches ROWS ENCODES UNPACKS, indexes WORK RELATION COLUMN END ROWS PART TIMES, parts WORK GROUPS TIMES, store BATCHES QUERIES, pages FILE STAGE CACHE TIMES QUERY";
 
 fn main(rt: HostRuntime) -> anyhow::Result<ExitCode> {
     let mut words = env::args(&rt)?;
@@ -69,6 +72,9 @@ fn main(rt: HostRuntime) -> anyhow::Result<ExitCode> {
                 return Ok(ExitCode::SUCCESS);
             }
         }
+    }
+    if what == Some("pages") && measured_pages(&rt, &mut words)? {
+        return Ok(ExitCode::SUCCESS);
     }
     if what == Some("store") && measured_store(&rt, &mut words)? {
         return Ok(ExitCode::SUCCESS);
@@ -139,6 +145,49 @@ fn measured_indexes(rt: &HostRuntime, words: &mut env::Args<Global>) -> anyhow::
         }
     }
     Ok(true)
+}
+
+// A log imported as far as the words say, with a line for the last page of the query; or false where the words name none.
+fn measured_pages(rt: &HostRuntime, words: &mut env::Args<Global>) -> anyhow::Result<bool> {
+    let Some(name) = words.next() else {
+        return Ok(false);
+    };
+    let stage = words.next().and_then(|word| stage(word.as_str()));
+    let cache = words.next().and_then(|word| word.parse().ok());
+    let times = words.next().and_then(|word| word.parse().ok());
+    let query = words.next();
+    let (Some(stage), Some(cache), Some(times), Some(query)) = (stage, cache, times, query) else {
+        return Ok(false);
+    };
+    let alloc = rt.alloc();
+    let mut opener = DiskOpener::new(rt);
+    let Ok(source) = opener.open_one(alloc, name.as_str()) else {
+        return Ok(false);
+    };
+    let asking = Asking {
+        text: query.as_str(),
+        times,
+        cache,
+    };
+    let Some((rows, page)) = pages::measure(alloc, source, stage, asking)? else {
+        return Ok(false);
+    };
+    println!(rt; "rows {rows}")?;
+    if let Some(page) = page {
+        println!(rt; "found {} checked {} touched {} loads {}", page.found, page.checked, page.touched, page.loads)?;
+    }
+    Ok(true)
+}
+
+// The stage that a word names.
+fn stage(word: &str) -> Option<Stage> {
+    match word {
+        "read" => Some(Stage::Read),
+        "accept" => Some(Stage::Accept),
+        "index" => Some(Stage::Index),
+        "seal" => Some(Stage::Seal),
+        _ => None,
+    }
 }
 
 // The nanoseconds that the calls on a store took for the first tenth of so many batches and for the last, a line each; or
