@@ -16,12 +16,13 @@ use Rattle.zeek_log.specs.Table.{LogStep, Head, Line}
 use Rattle.importer.specs.declared.ends.ImportEnd.{ImportEnd}
 use Rattle.importer.specs.declared.ends.ImportEnd.TheVariants.{Fault, ReadFault, TooLong, Memory}
 use Rattle.importer.specs.Coming.{Anything, BatchesOn, Ended, Follow, Importing, IsAfter, IsAfterEnd, IsKnownBy, IsLost, MayFollow, Nothing, Standing, StepsOn, batches_to_come, fresh, steps_to_come}
-use Rattle.importer.specs.Cutting.{Bounds, Part, batch_of, cut_answers, cut_by, is_full, last_piece, part_batches, parts_of, pieces_since, rows_first, steps_behind}
+use Rattle.importer.specs.Cutting.{Bounds, Part, batch_of, bounds_of, cut, cut_answers, cut_by, is_full, last_piece, part_batches, parts_of, pieces_since, rows_first, steps_behind}
 use Rattle.importer.specs.Ending.{Answers, ahead, only_end}
 use Rattle.importer.specs.Laws.{AreCut, IsPiece, is_read_fault, rows_in, starting}
 use Rattle.importer.specs.Steps.{carried_answers, input_steps, input_steps_of_source}
 use Rattle.importer.proofs.CutLemmas.{nothing_comes}
 use Rattle.importer.proofs.GoingLemmas.{goes_join}
+use Rattle.importer.proofs.HeadedLemmas.{input_headed, source_headed}
 
 abbrev Rows : Type 0
 Rows = List (List Cell)
@@ -144,6 +145,18 @@ first_and_parts (Line row ∷ steps) = ap (λ (r : Rows). row ∷ r) (first_and_
 
 pub rows_kept : (bounds : Bounds) (source : ℕ) (heading : Heading) (steps : List LogStep) → batch_rows (cut_by bounds source (Head heading ∷ steps)) ≡ rows_in steps
 rows_kept bounds source heading steps = rows_of_parts bounds source (parts_of (Head heading ∷ steps)) ∙ first_and_parts steps
+
+-- no row stands before the first head
+headed_kept : (bounds : Bounds) (source : ℕ) (steps : List LogStep) → rows_first steps ≡ [] → batch_rows (cut_by bounds source steps) ≡ rows_in steps
+headed_kept bounds source steps first =
+    rows_of_parts bounds source (parts_of steps) ∙ ap (λ (r : Rows). r ++ part_rows (parts_of steps)) (sym first) ∙ first_and_parts steps
+
+pub input_kept : (source rows : ℕ) (bytes : List ℕ) (stop : Stop) → batch_rows (cut source rows (input_steps bytes stop).given) ≡ rows_in (input_steps bytes stop).given
+input_kept source rows bytes stop = headed_kept (bounds_of rows) source (input_steps bytes stop).given (input_headed bytes stop)
+
+pub source_kept : (source rows : ℕ) (bytes left : List ℕ) (failed : Bool) → batch_rows (cut source rows (input_steps_of_source bytes left failed).given) ≡ rows_in (input_steps_of_source bytes left failed).given
+source_kept source rows bytes left failed =
+    headed_kept (bounds_of rows) source (input_steps_of_source bytes left failed).given (source_headed bytes (take (length bytes - length left) bytes) failed)
 
 -- ---- runs of answers
 

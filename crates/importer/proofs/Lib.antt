@@ -1,6 +1,7 @@
 mod CarryLemmas
 pub mod CutLemmas
 pub mod GoingLemmas
+pub mod HeadedLemmas
 pub mod TurnLemmas
 pub mod LawLemmas
 mod Vectors

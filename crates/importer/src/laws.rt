@@ -4,13 +4,14 @@ ghost use Rattle.std.specs.List.{flat_map};
 ghost use Rattle.vast_value.specs.declared.cell.Cell.{Cell};
 ghost use Rattle.vast_value.specs.Headings.{Field, Heading, fits_fields};
 ghost use Rattle.event_batch.specs.Contents.{Content};
+ghost use Rattle.source_block.specs.declared.stop.Stop.{Stop};
 ghost use Rattle.zeek_log.specs.Table.{LogStep, Head};
 ghost use Rattle.importer.specs.declared.ends.ImportEnd.{ImportEnd};
 ghost use Rattle.importer.specs.Carrying.{carried};
 ghost use Rattle.importer.specs.Coming.{BatchesOn, Ended, Importing, IsLost, Standing, StepsOn, fresh};
-ghost use Rattle.importer.specs.Cutting.{Bounds, cut_answers, cut_by, pieces_since};
+ghost use Rattle.importer.specs.Cutting.{Bounds, cut, cut_answers, cut_by, pieces_since};
 ghost use Rattle.importer.specs.Laws.{AreCut, is_read_fault, rows_in, starting};
-ghost use Rattle.importer.specs.Steps.{input_steps_of_source};
+ghost use Rattle.importer.specs.Steps.{input_steps, input_steps_of_source};
 
 /// To carry a carried row again changes nothing, and it fits what the row fits.
 #[tactic(auto, using(crate::proofs::CarryLemmas::carried_twice, crate::proofs::CarryLemmas::still_fits))]
@@ -30,6 +31,13 @@ pub fn pieces_are_rows()
 #[tactic(auto, using(crate::proofs::LawLemmas::rows_kept))]
 pub fn no_row_is_lost()
     ensures { (bounds : Bounds) (source : ℕ) (heading : Heading) (steps : List LogStep) → flat_map (λ batch. batch.rows) (cut_by bounds source (Head heading ∷ steps)) ≡ rows_in steps }
+{}
+
+/// The batches of a log's bytes have all of its rows, each once and in order; so have those of a source that failed or went
+/// on too long.
+pub fn no_row_of_a_log_is_lost()
+    ensures bytes { (source rows : ℕ) (bytes : List ℕ) (stop : Stop) → flat_map (λ batch. batch.rows) (cut source rows (input_steps bytes stop).given) ≡ rows_in (input_steps bytes stop).given }
+    ensures source { (source rows : ℕ) (bytes left : List ℕ) (failed : Bool) → flat_map (λ batch. batch.rows) (cut source rows (input_steps_of_source bytes left failed).given) ≡ rows_in (input_steps_of_source bytes left failed).given }
 {}
 
 /// What some calls gave, and then others, is what all of them gave.

@@ -20,5 +20,6 @@ pub use ends::{How, ImportEnd, InputFault, SourceEnd};
 pub use import::Import;
 pub use input::Input;
 pub use laws::{
-    a_carried_row_is_carried, all_is_given, answers_join, no_row_is_lost, pieces_are_rows,
+    a_carried_row_is_carried, all_is_given, answers_join, no_row_is_lost, no_row_of_a_log_is_lost,
+    pieces_are_rows,
 };
