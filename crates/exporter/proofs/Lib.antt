@@ -6,3 +6,4 @@ pub mod RowLemmas
 pub mod SplitLemmas
 pub mod TakenLemmas
 pub mod WalkLemmas
+mod Vectors
