@@ -7,3 +7,4 @@ pub mod SplitLemmas
 pub mod StoreLemmas
 pub mod TakenLemmas
 pub mod WalkLemmas
+mod Vectors

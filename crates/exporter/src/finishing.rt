@@ -38,6 +38,7 @@ pub struct Page {
 ///
 /// A batch of the past range is read only where one of its events in the range may match, and a batch of the live range
 /// always. The cache is asked for each of them once, the past ones first, in ascending order. Each load counts one step.
+/// A snapshot that came back may be finished again with the same cache.
 pub fn finish<L: Ledger>(
     alloc: Global,
     taken: Taken,
@@ -52,6 +53,7 @@ pub fn finish<L: Ledger>(
     ensures back { IfErr result (λ e. e.0 ≡ taken) }
     ensures few { OnErr result (steps.new ≤ steps.old + length (touched_in taken.snapshot)) }
     ensures only { KeepsOnly (held_by taken.snapshot) cache.old cache.new }
+    ensures agree { AgreesWith (held_by taken.snapshot) cache.new }
 {
     match page_of(alloc, &taken, cache, steps) {
         Ok(page) => Ok((taken.settle(), page)),
@@ -78,6 +80,7 @@ fn page_of<L: Ledger>(
     ensures steps { IfOk result (λ page. steps.new ≡ steps.old + page.loads) }
     ensures few { OnErr result (steps.new ≤ steps.old + length (touched_in taken.now.snapshot)) }
     ensures only { KeepsOnly (held_by taken.now.snapshot) cache.old cache.new }
+    ensures agree { AgreesWith (held_by taken.now.snapshot) cache.new }
 {
     let parts = taken.parts();
     // There are fewer than 2^64 of them, so no count stands still.

@@ -10,6 +10,8 @@ mod live;
 mod past;
 mod rows;
 mod tally;
+#[cfg(test)]
+mod tests;
 
 pub use finishing::{Page, finish};
 pub use founds::{Found, Founds};
