@@ -1,11 +1,11 @@
 -- Small examples of asks and of rows in a range.
-use Rattle.std.proofs.Common.{◌≡◌, ℕ, ◌+◌, Bool, true, false, not, ◌&&◌, List, [], ◌∷◌, Some, None, length, refl, ap, ◌∙◌}
+use Rattle.std.proofs.Common.{◌≡◌, ℕ, Bool, true, false, not, ◌&&◌, List, [], ◌∷◌, refl, ap, ◌∙◌}
 use Rattle.vast_value.specs.declared.cell.Cell.{Cell}
 use Rattle.vast_value.specs.Headings.{Heading}
 use Rattle.query_meaning.specs.declared.expr.Expr.{Expr}
 use Rattle.query_meaning.specs.Sure.{maybe, sure}
 use Rattle.event_batch.specs.declared.format.Format.TheVariants.{Second}
-use Rattle.event_batch.specs.Contents.{Content, Spelled}
+use Rattle.event_batch.specs.Contents.{Content}
 use Rattle.event_history.specs.Events.{Event, event_of, events_of}
 use Rattle.event_history.specs.Pieces.{Held}
 use Rattle.archive_cache.specs.Caches.{Caching, Kept}
