@@ -174,7 +174,10 @@ fn measured_pages(rt: &HostRuntime, words: &mut env::Args<Global>) -> anyhow::Re
     };
     println!(rt; "rows {rows}")?;
     if let Some(page) = page {
-        println!(rt; "found {} checked {} touched {} loads {}", page.found, page.checked, page.touched, page.loads)?;
+        println!(rt;
+            "found {} checked {} touched {} loads {}",
+            page.found, page.checked, page.touched, page.loads
+        )?;
     }
     Ok(true)
 }

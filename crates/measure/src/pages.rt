@@ -176,10 +176,10 @@ fn ask<L: Ledger>(
     let Ok((_, page)) = finish(alloc, taken, cache, steps) else {
         return Err(AllocError.into());
     };
-    Ok(Some(asked(&page)))
+    Ok(Some(told(&page)))
 }
 
-fn asked(page: &Page) -> Asked {
+fn told(page: &Page) -> Asked {
     Asked {
         found: page.found.as_slice().len(),
         checked: page.checked,

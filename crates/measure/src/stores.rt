@@ -59,10 +59,34 @@ fn measure_counted<R: Clock, L: Ledger>(
         return Ok(None);
     };
     let tenth = batches / 10;
-    let first = run(rt, alloc, &mut store, &packed, &mut sessions, tenth, &mut steps)?;
+    let first = run(
+        rt,
+        alloc,
+        &mut store,
+        &packed,
+        &mut sessions,
+        tenth,
+        &mut steps,
+    )?;
     let between = batches - tenth - tenth;
-    let _between = run(rt, alloc, &mut store, &packed, &mut sessions, between, &mut steps)?;
-    let last = run(rt, alloc, &mut store, &packed, &mut sessions, tenth, &mut steps)?;
+    let _between = run(
+        rt,
+        alloc,
+        &mut store,
+        &packed,
+        &mut sessions,
+        between,
+        &mut steps,
+    )?;
+    let last = run(
+        rt,
+        alloc,
+        &mut store,
+        &packed,
+        &mut sessions,
+        tenth,
+        &mut steps,
+    )?;
     match (first, last) {
         (Some(first), Some(last)) => Ok(Some((first, last))),
         _ => Ok(None),
