@@ -1,0 +1,10 @@
+//! A store as the lines of a script use it: each line's reply, and what a script holds between lines.
+#![tactic(auto)]
+
+mod claims;
+mod desk;
+mod groups;
+mod queries;
+mod replies;
+
+pub use desk::Desk;

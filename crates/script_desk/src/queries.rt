@@ -1,0 +1,120 @@
+//! The lines on queries.
+ghost use Rattle.std.specs.Prelude.{◌≡◌, ◌≢◌, ◌+◌, None, Some, MatchOption, OnOk};
+ghost use Rattle.event_history.specs.Steps as s;
+ghost use Rattle.script_desk.specs.Desks.{Plays, held_of_query, moved, play_leave, play_query, play_take, register_played, step_at};
+
+use crate::desk::{Desk, Hold, SEAT};
+use crate::replies::{push_both, push_line, push_refused};
+use event_history::Mode;
+use history_core::{LeaveEnd, RegisterEnd, TakeEnd, given_stays};
+use query_meaning::Expr;
+use query_parse::{ParseEnd, parse};
+use std::alloc::AllocError;
+use std::mem;
+use vast_value::Bytes;
+
+impl Desk {
+    /// `query MODE TEXT`: registers a query.
+    pub fn query(&mut self, mode: Mode, text: &str, out: &mut Bytes) -> Result<(), AllocError>
+        ensures { OnOk result (Plays (play_query mode text.now self.old) self.new out.old out.new) }
+    {
+        match parse(self.alloc, text) {
+            Ok(expr) => self.register(mode, expr, out),
+            Err(ParseEnd::Fault(fault)) => push_refused(fault, out),
+            Err(ParseEnd::Memory) => Err(AllocError),
+        }
+    }
+
+    fn register(&mut self, mode: Mode, expr: Expr, out: &mut Bytes) -> Result<(), AllocError>
+        ensures { OnOk result (Plays (register_played (moved self.old (s.Register mode expr)) (step_at self.old (s.Register mode expr)).reply) self.new out.old out.new) }
+    {
+        given_stays();
+        self.queries.reserve(1)?;
+        let end = self.store.register(SEAT, mode, expr);
+        let _ = self.store.entries();
+        match end {
+            Ok(session) => {
+                let query = u64::from(session.query());
+                let from = session.registered();
+                self.queries.push_reserved(Hold::Session(session));
+                push_both(b"query ", query, b" from ", from, out)
+            }
+            Err((_, RegisterEnd::TooMany { limit })) => {
+                push_line(b"too many ", u64::from(limit), out)
+            }
+            Err((_, RegisterEnd::Ahead { from, have })) => {
+                push_both(b"ahead ", from, b" ", have, out)
+            }
+            Err((_, RegisterEnd::Memory)) => Err(AllocError),
+        }
+    }
+
+    /// `take Q`: takes what a query is to be told, and holds it.
+    pub fn take(&mut self, query: u64, out: &mut Bytes) -> Result<(), AllocError>
+        ensures { OnOk result (Plays (play_take query self.old) self.new out.old out.new) }
+    {
+        match self.free_place(query) {
+            None => push_line(b"no session ", query, out),
+            Some(at) => self.take_at(at, query, out),
+        }
+    }
+
+    // The place of a query whose session is held.
+    fn free_place(&self, query: u64) -> Option<usize>
+        ensures { MatchOption result (held_of_query self.now.queries query ≢ Some None) (λ at. (at + 1 ≡ query) × (held_of_query self.now.queries query ≡ Some None)) }
+    {
+        if query == 0 || query > self.queries.len() as u64 {
+            return None;
+        }
+        let at = (query - 1) as usize;
+        match &self.queries[at] {
+            Hold::Session(_) => Some(at),
+            _ => None,
+        }
+    }
+
+    fn take_at(&mut self, at: usize, query: u64, out: &mut Bytes) -> Result<(), AllocError>
+        requires place { at + 1 ≡ query }
+        requires free { held_of_query self.old.queries query ≡ Some None }
+        ensures { OnOk result (Plays (play_take query self.old) self.new out.old out.new) }
+    {
+        given_stays();
+        let Hold::Session(session) = mem::replace(&mut self.queries[at], Hold::Moved) else {
+            unreachable!()
+        };
+        let end = self.store.take(SEAT, session);
+        let _ = self.store.entries();
+        match end {
+            Ok(taken) => {
+                self.queries[at] = Hold::Taken(taken);
+                push_line(b"taken ", query, out)
+            }
+            Err((session, TakeEnd::Left { .. })) => {
+                self.queries[at] = Hold::Session(session);
+                push_line(b"already left ", query, out)
+            }
+            Err((session, TakeEnd::Memory)) => {
+                self.queries[at] = Hold::Session(session);
+                Err(AllocError)
+            }
+        }
+    }
+
+    /// `leave Q`: ends a query.
+    pub fn leave(&mut self, query: u64, out: &mut Bytes) -> Result<(), AllocError>
+        ensures { OnOk result (Plays (play_leave query self.old) self.new out.old out.new) }
+    {
+        given_stays();
+        if query == 0 || query > self.queries.len() as u64 {
+            return push_line(b"no query ", query, out);
+        }
+        let _ = self.store.entries();
+        let end = self.store.leave(SEAT, query as u32);
+        let _ = self.store.entries();
+        match end {
+            Ok(()) => push_line(b"left ", query, out),
+            Err(LeaveEnd::Left { .. }) => push_line(b"already left ", query, out),
+            Err(LeaveEnd::Memory) => Err(AllocError),
+        }
+    }
+}
