@@ -6,7 +6,7 @@ use Rattle.history_core.specs.declared.answers.Claim.{Claim}
 use Rattle.script_desk.specs.Desks.{without_first}
 use Rattle.script_desk.specs.Kept.{IsFirstOn, NoneOn}
 
-abbrev numbers : List Claim → List ℕ
+abbrev pub numbers : List Claim → List ℕ
 numbers claims = map (λ c. c.batch) claims
 
 behind : (c : Claim) (claims : List Claim) (b at : ℕ) → IsFirstOn (c ∷ claims) b (suc at) → IsFirstOn claims b at

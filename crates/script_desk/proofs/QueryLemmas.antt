@@ -1,15 +1,19 @@
 -- What is held of each query.
-use Rattle.std.proofs.Common.{◌≡◌, ℕ, zero, suc, ◌+◌, ◌-◌, ◌<◌, ◌≤◌, List, [], ◌∷◌, Option, None, Some, length, map, slice_get, slice_index_or, refl, ap, sym, ◌∙◌, arith}
-use Rattle.event_history.specs.declared.entry.Deed.{Deed}
-use Rattle.event_history.specs.declared.entry.Deed.TheVariants.{Accept, Claim, Unclaim, Index, Seal, Register, Take, Leave}
+use Rattle.std.proofs.Common.{◌≡◌, ℕ, zero, suc, ◌+◌, ◌-◌, ◌<◌, ◌≤◌, Bool, true, false, if◌then◌else◌, List, [], ◌∷◌, ◌++◌, Option, None, Some, is_some, length, map, slice_get, slice_index_or, slice_set, refl, ap, sym, ◌∙◌, arith}
+use Rattle.std.proofs.lemmas.List.{append-nil, map-set, reverse-append}
+use Rattle.std.proofs.Math.Seq.{map-set_same}
 use Rattle.event_history.specs.declared.entry.Entry.{Entry}
-use Rattle.event_history.specs.declared.entry.Limits.{Limits}
-use Rattle.event_history.specs.Legal.{Allowed, Legal}
-use Rattle.event_history.specs.Queries.{queries_after, query_count}
+use Rattle.event_history.specs.Histories.{past}
+use Rattle.event_history.specs.Queries.{Registration, has_left, query_count, registration}
+use Rattle.event_history.specs.Steps as s
+use Rattle.history_core.specs.declared.answers.Claim.{Claim}
+use Rattle.history_core.specs.declared.answers.Group.{Group}
+use Rattle.history_core.specs.Replies.{Makes}
+use Rattle.history_core.specs.Shown.{Shown, entries_of, with_entries}
 use Rattle.history_core.specs.Snapshots.{Snapshot}
 use Rattle.script_desk.specs.declared.desk.Hold.{Hold}
-use Rattle.script_desk.specs.Desks.{held_of_query}
-use Rattle.script_desk.specs.Kept.{take_in}
+use Rattle.script_desk.specs.Desks.{Desk, held_of_query, moved, replied, step_at, take_played, taken_text, with_held, with_queries}
+use Rattle.script_desk.specs.Kept.{desk_of, take_in, take_reply}
 
 got : (queries : List Hold) (i : ℕ) (h : Hold) → i < length queries → h ≡ slice_index_or queries i h → slice_get (map take_in queries) i ≡ Some (take_in h)
 got [] i h k e = absurd (omega (arith, k))
@@ -21,26 +25,62 @@ past_all [] i k = refl
 past_all (x ∷ queries) zero k = absurd (omega (arith, k))
 past_all (x ∷ queries) (suc i) k = past_all queries i (omega (arith, k))
 
-pub held_at : (queries : List Hold) (q : ℕ) (h : Hold) → 0 < q → q ≤ length queries → h ≡ slice_index_or queries (q - 1) h
+pub held_at : (queries : List Hold) (q at : ℕ) (h : Hold) → at + 1 ≡ q → at < length queries → h ≡ slice_index_or queries at h
     → held_of_query (map take_in queries) q ≡ Some (take_in h)
-held_at queries zero h some k e = absurd (omega (arith, some))
-held_at queries (suc i) h some k e = got queries i h (omega (arith, k)) e
+held_at queries zero at h is k e = absurd (omega (arith, is))
+held_at queries (suc i) at h is k e =
+    let same : at ≡ i = omega (arith, is) in
+    got queries i h (omega (arith, k)) (e ∙ ap (λ (n : ℕ). slice_index_or queries n h) same)
 
 pub held_past : (queries : List Hold) (q : ℕ) → length queries < q → held_of_query (map take_in queries) q ≡ None
 held_past queries zero k = refl
 held_past queries (suc i) k = past_all queries i (omega (arith, k))
 
--- as many queries are registered as the limit, at the most
-one_more : (limits : Limits) (before : List Entry) (d : Deed) → Allowed limits before d → query_count before ≤ limits.queries → queries_after d (query_count before) ≤ limits.queries
-one_more limits before (Accept packed) a h = h
-one_more limits before (Claim b) a h = h
-one_more limits before (Unclaim b) a h = h
-one_more limits before (Index b) a h = h
-one_more limits before (Seal k) a h = h
-one_more limits before (Register q mode expr) a h = omega (arith, a.0, a.1)
-one_more limits before (Take q past_to live_to) a h = h
-one_more limits before (Leave q) a h = h
+-- the place of a query that is known
+pub place_there : (queries : List Hold) (q at : ℕ) (held : Option Snapshot) → at + 1 ≡ q → held_of_query (map take_in queries) q ≡ Some held → at < length queries
+place_there queries zero at held is e = absurd (omega (arith, is))
+place_there [] (suc i) at held is e = absurd cc
+place_there (x ∷ queries) (suc zero) at held is e = omega (arith, is)
+place_there (x ∷ queries) (suc (suc i)) at held is e = omega (arith, is, place_there queries (suc i) i held (omega arith) e)
 
-pub queries_within : (limits : Limits) (before : List Entry) → Legal limits before → query_count before ≤ limits.queries
-queries_within limits [] legal = omega arith
-queries_within limits (e ∷ before) legal = one_more limits before e.deed legal.1 (queries_within limits before legal.0)
+pub free_there : (queries : List Hold) (q at : ℕ) (h : Hold) → at + 1 ≡ q → held_of_query (map take_in queries) q ≡ Some None → h ≡ slice_index_or queries at h → take_in h ≡ None
+free_there queries q at h is e here =
+    let there = held_at queries q at h is (place_there queries q at None is e) here in
+    let same : Some (take_in h) ≡ Some None = sym there ∙ e in
+    cc
+
+-- no take registers a query
+take_counts : (size : ℕ) (history : List Entry) (q : ℕ) (left : Bool) (g : Option Registration)
+    → query_count (past (history ++ entries_of 0 (if left then s.replies (s.Left q) else s.take_step size (past history) q g).deed)) ≡ query_count (past history)
+take_counts size history q true g = ap (λ (h : List Entry). query_count (past h)) (append-nil history)
+take_counts size history q false None = ap (λ (h : List Entry). query_count (past h)) (append-nil history)
+take_counts size history q false (Some g) = ap (λ (b : List Entry). query_count b) (reverse-append history _)
+
+pub take_keeps_count : (store store_now : Shown) (q : ℕ) → store_now ≡ with_entries store (entries_of 0 (s.step store.limits (past store.history) (s.Take q)).deed)
+    → query_count (past store_now.history) ≡ query_count (past store.history)
+take_keeps_count store store_now q is =
+    ap (λ (x : Shown). query_count (past x.history)) is
+    ∙ take_counts store.limits.group store.history q (has_left q (past store.history)) (registration q (past store.history))
+
+by_held : (d : Desk) (q : ℕ) (reply : s.Reply) (o : Option Snapshot) (now : Desk) (told : Bool) → reply ≡ take_reply q o → told ≡ is_some o
+    → (o ≡ None → now ≡ d) → ((x : Snapshot) → o ≡ Some x → now ≡ with_held q (Some x) d) → take_played q d reply ≡ replied now (taken_text q told)
+by_held d q reply None now told is t none some =
+    ap (λ (r : s.Reply). take_played q d r) is ∙ ap (λ (x : Desk). replied x (taken_text q false)) (sym (none refl)) ∙ ap (λ (b : Bool). replied now (taken_text q b)) (sym t)
+by_held d q reply (Some x) now told is t none some =
+    ap (λ (r : s.Reply). take_played q d r) is ∙ ap (λ (y : Desk). replied y (taken_text q true)) (sym (some x refl)) ∙ ap (λ (b : Bool). replied now (taken_text q b)) (sym t)
+
+pub take_is : (store store_now : Shown) (claims : List Claim) (groups : List Group) (queries queries_now : List Hold) (q at : ℕ) (h held : Hold) (told : Bool)
+    → at + 1 ≡ q → h ≡ slice_index_or queries at h → take_in h ≡ None → queries_now ≡ slice_set queries at held
+    → Makes store store_now 0 (s.Take q) (Some (take_reply q (take_in held))) → told ≡ is_some (take_in held)
+    → take_played q (moved (desk_of store claims groups queries) (s.Take q)) (step_at (desk_of store claims groups queries) (s.Take q)).reply
+    ≡ replied (desk_of store_now claims groups queries_now) (taken_text q told)
+take_is store store_now claims groups queries queries_now q at h held told is here free put made t =
+    let d = moved (desk_of store claims groups queries) (s.Take q) in
+    let now = desk_of store_now claims groups queries_now in
+    let change : (qs : List (Option Snapshot)) → map take_in queries_now ≡ qs → now ≡ with_queries d qs =
+    λ qs e. ap (λ (x : Shown). desk_of x claims groups queries_now) made.1 ∙ ap (λ (os : List (Option Snapshot)). with_queries d os) e in
+    let written = ap (λ (hs : List Hold). map take_in hs) put in
+    by_held d q _ (take_in held) now told (sym made.0) t
+    (λ e. change (map take_in queries) (written ∙ map-set_same take_in queries at held h (e ∙ sym free ∙ ap (λ (x : Hold). take_in x) here)))
+    (λ x e. change (slice_set (map take_in queries) (q - 1) (Some x))
+    (written ∙ map-set take_in queries at held ∙ ap (λ (o : Option Snapshot). slice_set (map take_in queries) at o) e ∙ ap (λ (n : ℕ). slice_set (map take_in queries) n (Some x)) (omega (arith, is))))

@@ -1,5 +1,5 @@
 -- What a script holds beside a store, and what each line replies and makes of both.
-use Rattle.std.specs.Prelude.{◌≡◌, ℕ, zero, suc, ◌-◌, Bool, ◌==◌, if◌then◌else◌, List, [], ◌∷◌, ◌++◌, Option, None, Some, Result, Ok, Err, codes, length, nat_lt, slice_get, slice_set}
+use Rattle.std.specs.Prelude.{◌≡◌, ℕ, zero, suc, ◌-◌, Bool, true, false, ◌==◌, if◌then◌else◌, List, [], ◌∷◌, ◌++◌, Option, None, Some, Result, Ok, Err, codes, length, nat_lt, slice_get, slice_set}
 use Rattle.std.specs.List.{list_any}
 use Rattle.query_meaning.specs.declared.expr.Expr.{Expr}
 use Rattle.query_parse.specs.declared.fault.QueryFault.{QueryFault}
@@ -147,10 +147,14 @@ with_held q held d = with_queries d (slice_set d.queries (q - 1) held)
 abbrev pub no_session : ℕ → Desk → Played
 no_session q d = replied d (told (codes "no session ") q)
 
+abbrev pub taken_text : ℕ → Bool → List ℕ
+taken_text q true = told (codes "taken ") q
+taken_text q false = told (codes "already left ") q
+
 abbrev pub take_played : ℕ → Desk → s.Reply → Played
 take_played q d (s.Taken taking parts past_batches live_batches) =
-    replied (with_held q (Some (record { taking = taking; parts = parts; past_batches = past_batches; live_batches = live_batches })) d) (told (codes "taken ") q)
-take_played q d _ = replied d (told (codes "already left ") q)
+    replied (with_held q (Some (record { taking = taking; parts = parts; past_batches = past_batches; live_batches = live_batches })) d) (taken_text q true)
+take_played q d _ = replied d (taken_text q false)
 
 abbrev pub take_by : ℕ → Desk → Option (Option Snapshot) → Played
 take_by q d (Some None) = take_played q (moved d (s.Take q)) (step_at d (s.Take q)).reply

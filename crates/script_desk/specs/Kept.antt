@@ -3,6 +3,7 @@ use Rattle.std.specs.Prelude.{◌≡◌, ◌==◌, ℕ, false, ◌+◌, ◌<◌,
 use Rattle.event_history.specs.declared.entry.Entry.{Entry}
 use Rattle.event_history.specs.Histories.{past}
 use Rattle.event_history.specs.Queries.{query_count}
+use Rattle.event_history.specs.Steps as s
 use Rattle.history_core.specs.declared.answers.Claim.{Claim}
 use Rattle.history_core.specs.declared.answers.Group.{Group}
 use Rattle.history_core.specs.Replies.{IsClaimAt, IsGroupAt, MayMerge}
@@ -27,14 +28,19 @@ desk_of store claims groups queries = record {
   queries = map take_in queries;
 }
 
--- the session, or that of the take, is of this query
-abbrev pub IsOfQuery : ℕ → Hold → Type 0
-IsOfQuery q (hold.Session session) = session.query ≡ q
-IsOfQuery q (hold.Taken taken) = taken.session.query ≡ q
-IsOfQuery q hold.Moved = ⊥
+-- the query that the session, or that of the take, is of: they count from 1
+abbrev pub query_of : Hold → ℕ
+query_of (hold.Session session) = session.query
+query_of (hold.Taken taken) = taken.session.query
+query_of hold.Moved = 0
 
 abbrev pub EachOfQuery : List Hold → Type 0
-EachOfQuery queries = (i : ℕ) (h : Hold) → i < length queries → h ≡ slice_index_or queries i h → IsOfQuery (i + 1) h
+EachOfQuery queries = (i : ℕ) (h : Hold) → i < length queries → h ≡ slice_index_or queries i h → query_of h ≡ i + 1
+
+-- what the store replies to a take, by what is then held
+abbrev pub take_reply : ℕ → Option Snapshot → s.Reply
+take_reply q None = s.Left q
+take_reply q (Some x) = s.Taken x.taking x.parts x.past_batches x.live_batches
 
 abbrev pub IsOfGroups : Shown → Group → Type 0
 IsOfGroups store g = IsGroupAt store.limits.group (past store.history) g × MayMerge g.fragments

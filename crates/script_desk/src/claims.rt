@@ -2,7 +2,8 @@
 ghost use Rattle.std.specs.Prelude.{◌≡◌, ◌≤◌, ◌+◌, ◌<◌, length, slice_index_or, IfOk, MatchOption, OnOk};
 ghost use Rattle.event_history.specs.Histories.{batch_count, past};
 ghost use Rattle.history_core.specs.Replies.{IsClaimAt};
-ghost use Rattle.script_desk.specs.Desks.{Plays, play_claim, play_index, play_lose, play_unclaim, without_claim};
+ghost use Rattle.event_history.specs.Steps as s;
+ghost use Rattle.script_desk.specs.Desks.{Plays, moved, play_claim, play_index, play_lose, play_unclaim, without_claim};
 ghost use Rattle.script_desk.specs.Kept.{IsFirstOn, NoneOn};
 
 use crate::desk::{Desk, SEAT};
@@ -38,16 +39,24 @@ impl Desk {
     pub fn unclaim(&mut self, batch: u64, out: &mut Bytes) -> Result<(), AllocError>
         ensures { OnOk result (Plays (play_unclaim batch self.old) self.new out.old out.new) }
     {
-        given_stays();
         let Some(at) = claim_on(self.claims.as_slice(), batch) else {
             return push_line(b"no claim ", batch, out);
         };
         let claim = self.claims.remove(at);
+        self.give_back(claim)?;
+        push_line(b"unclaimed ", batch, out)
+    }
+
+    fn give_back(&mut self, claim: Claim) -> Result<(), AllocError>
+        requires { IsClaimAt (past self.old.history) claim }
+        ensures { OnOk result (self.new ≡ moved self.old (s.Unclaim claim.batch)) }
+    {
+        given_stays();
         if self.store.unclaim(SEAT, claim).is_err() {
             return Err(AllocError);
         }
         let _ = self.store.entries();
-        push_line(b"unclaimed ", batch, out)
+        Ok(())
     }
 
     /// `lose B`: drops a held claim, which the store doesn't see.

@@ -3,6 +3,7 @@ ghost use Rattle.std.specs.Prelude.{◌≡◌, ◌≤◌, [], IfOk, OnOk};
 ghost use Rattle.event_history.specs.Histories.{past};
 ghost use Rattle.event_history.specs.Steps as s;
 ghost use Rattle.script_desk.specs.Desks.{Plays, play_accept, play_rows, refused_by, step_at};
+ghost use Rattle.script_desk.specs.Kept.{query_of};
 
 use crate::replies::{push_both, push_line, push_told};
 use event_batch::Packed;
@@ -23,6 +24,19 @@ pub(crate) enum Hold {
     Taken(Taken),
     /// Neither, while a call has it.
     Moved,
+}
+
+impl Hold {
+    /// The query's number, and 0 where neither is held.
+    pub(crate) fn number(&self) -> u32
+        ensures { result ≡ query_of self.now }
+    {
+        match self {
+            Hold::Session(session) => session.query(),
+            Hold::Taken(taken) => taken.query(),
+            Hold::Moved => 0,
+        }
+    }
 }
 
 /// A store with the claims, groups and takes that a script holds. Contracts see the store's limits and history, and what is

@@ -1,12 +1,14 @@
 //! The lines on queries.
-ghost use Rattle.std.specs.Prelude.{◌≡◌, ◌≢◌, ◌+◌, None, Some, MatchOption, OnOk};
+ghost use Rattle.std.specs.Prelude.{◌≡◌, ◌≢◌, ◌+◌, None, Some, is_some, IfOk, MatchOption, OnErr, OnOk};
 ghost use Rattle.event_history.specs.Steps as s;
-ghost use Rattle.script_desk.specs.Desks.{Plays, held_of_query, moved, play_leave, play_query, play_take, register_played, step_at};
+ghost use Rattle.history_core.specs.Replies.{IsRegistered, Makes};
+ghost use Rattle.script_desk.specs.Desks.{Plays, held_of_query, moved, play_leave, play_query, play_take, register_played, replied, step_at, take_played, taken_text};
+ghost use Rattle.script_desk.specs.Kept.{query_of, take_in, take_reply};
 
 use crate::desk::{Desk, Hold, SEAT};
 use crate::replies::{push_both, push_line, push_refused};
 use event_history::Mode;
-use history_core::{LeaveEnd, RegisterEnd, TakeEnd, given_stays};
+use history_core::{LeaveEnd, RegisterEnd, Store, TakeEnd, given_stays};
 use query_meaning::Expr;
 use query_parse::{ParseEnd, parse};
 use std::alloc::AllocError;
@@ -53,9 +55,13 @@ impl Desk {
     pub fn take(&mut self, query: u64, out: &mut Bytes) -> Result<(), AllocError>
         ensures { OnOk result (Plays (play_take query self.old) self.new out.old out.new) }
     {
-        match self.free_place(query) {
-            None => push_line(b"no session ", query, out),
-            Some(at) => self.take_at(at, query, out),
+        let Some(at) = self.free_place(query) else {
+            return push_line(b"no session ", query, out);
+        };
+        if self.take_at(at, query)? {
+            push_line(b"taken ", query, out)
+        } else {
+            push_line(b"already left ", query, out)
         }
     }
 
@@ -73,31 +79,17 @@ impl Desk {
         }
     }
 
-    fn take_at(&mut self, at: usize, query: u64, out: &mut Bytes) -> Result<(), AllocError>
+    // Whether the query was told, which then has its take; else it has left.
+    fn take_at(&mut self, at: usize, query: u64) -> Result<bool, AllocError>
         requires place { at + 1 ≡ query }
         requires free { held_of_query self.old.queries query ≡ Some None }
-        ensures { OnOk result (Plays (play_take query self.old) self.new out.old out.new) }
+        ensures { IfOk result (λ told. take_played query (moved self.old (s.Take query)) (step_at self.old (s.Take query)).reply ≡ replied self.new (taken_text query told)) }
     {
         given_stays();
-        let Hold::Session(session) = mem::replace(&mut self.queries[at], Hold::Moved) else {
-            unreachable!()
-        };
-        let end = self.store.take(SEAT, session);
         let _ = self.store.entries();
-        match end {
-            Ok(taken) => {
-                self.queries[at] = Hold::Taken(taken);
-                push_line(b"taken ", query, out)
-            }
-            Err((session, TakeEnd::Left { .. })) => {
-                self.queries[at] = Hold::Session(session);
-                push_line(b"already left ", query, out)
-            }
-            Err((session, TakeEnd::Memory)) => {
-                self.queries[at] = Hold::Session(session);
-                Err(AllocError)
-            }
-        }
+        let told = take_hold(&mut self.store, &mut self.queries[at])?;
+        let _ = self.store.entries();
+        Ok(told)
     }
 
     /// `leave Q`: ends a query.
@@ -108,13 +100,41 @@ impl Desk {
         if query == 0 || query > self.queries.len() as u64 {
             return push_line(b"no query ", query, out);
         }
-        let _ = self.store.entries();
-        let end = self.store.leave(SEAT, query as u32);
+        let number = self.queries[(query - 1) as usize].number();
+        let end = self.store.leave(SEAT, number);
         let _ = self.store.entries();
         match end {
             Ok(()) => push_line(b"left ", query, out),
             Err(LeaveEnd::Left { .. }) => push_line(b"already left ", query, out),
             Err(LeaveEnd::Memory) => Err(AllocError),
+        }
+    }
+}
+
+// Takes with the session that is held, which is held again where the query has left or memory runs out.
+fn take_hold(store: &mut Store, hold: &mut Hold) -> Result<bool, AllocError>
+    requires free { take_in hold.old ≡ None }
+    requires known { IsRegistered store.old (query_of hold.old) }
+    ensures step { IfOk result (λ told. Makes store.old store.new 0 (s.Take (query_of hold.old)) (Some (take_reply (query_of hold.old) (take_in hold.new)))) }
+    ensures told { IfOk result (λ told. told ≡ is_some (take_in hold.new)) }
+    ensures of { query_of hold.new ≡ query_of hold.old }
+    ensures memory { OnErr result ((store.new ≡ store.old) × (take_in hold.new ≡ None)) }
+{
+    let Hold::Session(session) = mem::replace(hold, Hold::Moved) else {
+        unreachable!()
+    };
+    match store.take(SEAT, session) {
+        Ok(taken) => {
+            *hold = Hold::Taken(taken);
+            Ok(true)
+        }
+        Err((session, TakeEnd::Left { .. })) => {
+            *hold = Hold::Session(session);
+            Ok(false)
+        }
+        Err((session, TakeEnd::Memory)) => {
+            *hold = Hold::Session(session);
+            Err(AllocError)
         }
     }
 }
