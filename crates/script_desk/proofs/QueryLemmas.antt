@@ -11,9 +11,11 @@ use Rattle.history_core.specs.declared.answers.Group.{Group}
 use Rattle.history_core.specs.Replies.{Makes}
 use Rattle.history_core.specs.Shown.{Shown, entries_of, with_entries}
 use Rattle.history_core.specs.Snapshots.{Snapshot}
+use Rattle.history_core.specs.declared.session.Session.{Session}
 use Rattle.script_desk.specs.declared.desk.Hold.{Hold}
+use Rattle.script_desk.specs.declared.desk.Hold.TheVariants as hold
 use Rattle.script_desk.specs.Desks.{Desk, held_of_query, moved, replied, step_at, take_played, taken_text, with_held, with_queries}
-use Rattle.script_desk.specs.Kept.{desk_of, take_in, take_reply}
+use Rattle.script_desk.specs.Kept.{desk_of, query_of, take_in, take_reply}
 
 got : (queries : List Hold) (i : ℕ) (h : Hold) → i < length queries → h ≡ slice_index_or queries i h → slice_get (map take_in queries) i ≡ Some (take_in h)
 got [] i h k e = absurd (omega (arith, k))
@@ -48,6 +50,12 @@ free_there queries q at h is e here =
     let there = held_at queries q at h is (place_there queries q at None is e) here in
     let same : Some (take_in h) ≡ Some None = sym there ∙ e in
     cc
+
+-- neither a take nor nothing is held of a query: its session is
+pub no_session : (h : Hold) (n : ℕ) → take_in h ≡ None → query_of h ≡ n + 1 → ((session : Session) → h ≡ hold.Session session → ⊥) → ⊥
+no_session (hold.Session session) n free of_it other = other session refl
+no_session (hold.Taken taken) n free of_it other = cc
+no_session hold.Moved n free of_it other = omega (arith, of_it)
 
 -- no take registers a query
 take_counts : (size : ℕ) (history : List Entry) (q : ℕ) (left : Bool) (g : Option Registration)

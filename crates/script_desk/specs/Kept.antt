@@ -1,6 +1,5 @@
 -- What a desk keeps, and what always holds of it.
 use Rattle.std.specs.Prelude.{◌≡◌, ◌==◌, ℕ, false, ◌+◌, ◌<◌, List, Option, None, Some, All, length, map, slice_index_or}
-use Rattle.event_history.specs.declared.entry.Entry.{Entry}
 use Rattle.event_history.specs.Histories.{past}
 use Rattle.event_history.specs.Queries.{query_count}
 use Rattle.event_history.specs.Steps as s

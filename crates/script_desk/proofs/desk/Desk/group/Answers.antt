@@ -1,4 +1,4 @@
-use Rattle.std.proofs.Common.{◌≡◌, ◌∷◌, ◌++◌, [], List, Some, OnOk, ap, ◌∙◌, subst}
+use Rattle.std.proofs.Common.{◌≡◌, ◌∷◌, ◌++◌, [], List, OnOk, ap, ◌∙◌, subst}
 use Rattle.history_core.specs.declared.answers.Group.{Group}
 use Rattle.script_desk.specs.Desks.{Desk, Plays, play_group}
 use Rattle.script_desk.specs.Kept.{desk_of}

@@ -1,4 +1,4 @@
-use Rattle.std.proofs.Common.{◌≡◌, List, OnOk, subst}
+use Rattle.std.proofs.Common.{List, OnOk, subst}
 use Rattle.history_core.specs.declared.answers.Claim.{Claim}
 use Rattle.script_desk.specs.Desks.{Desk, Plays, play_lose}
 use Rattle.script_desk.specs.Kept.{IsFirstOn, NoneOn, desk_of}
