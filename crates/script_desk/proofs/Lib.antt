@@ -1,3 +1,5 @@
 mod ClaimLemmas
+mod PageLemmas
 mod PlayLemmas
 mod QueryLemmas
+mod StayLemmas

@@ -1,5 +1,5 @@
 -- What is held of each query.
-use Rattle.std.proofs.Common.{◌≡◌, ℕ, zero, suc, ◌+◌, ◌-◌, ◌<◌, ◌≤◌, Bool, true, false, if◌then◌else◌, List, [], ◌∷◌, ◌++◌, Option, None, Some, is_some, length, map, slice_get, slice_index_or, slice_set, refl, ap, sym, ◌∙◌, arith}
+use Rattle.std.proofs.Common.{◌≡◌, ℕ, zero, suc, ◌+◌, ◌-◌, ◌<◌, ◌≤◌, Bool, true, false, if◌then◌else◌, List, [], ◌∷◌, ◌++◌, Option, None, Some, is_some, length, map, slice_get, slice_index_or, slice_set, refl, ap, sym, ◌∙◌, arith, subst}
 use Rattle.std.proofs.lemmas.List.{append-nil, map-set, reverse-append}
 use Rattle.std.proofs.Math.Seq.{map-set_same}
 use Rattle.event_history.specs.declared.entry.Entry.{Entry}
@@ -14,7 +14,7 @@ use Rattle.history_core.specs.Snapshots.{Snapshot}
 use Rattle.history_core.specs.declared.session.Session.{Session}
 use Rattle.script_desk.specs.declared.desk.Hold.{Hold}
 use Rattle.script_desk.specs.declared.desk.Hold.TheVariants as hold
-use Rattle.script_desk.specs.Desks.{Desk, held_of_query, moved, replied, step_at, take_played, taken_text, with_held, with_queries}
+use Rattle.script_desk.specs.Desks.{Desk, held_of_query, holding, moved, snapshot_in, taken_at, with_held, with_queries}
 use Rattle.script_desk.specs.Kept.{desk_of, query_of, take_in, take_reply}
 
 got : (queries : List Hold) (i : ℕ) (h : Hold) → i < length queries → h ≡ slice_index_or queries i h → slice_get (map take_in queries) i ≡ Some (take_in h)
@@ -70,25 +70,31 @@ take_keeps_count store store_now q is =
     ap (λ (x : Shown). query_count (past x.history)) is
     ∙ take_counts store.limits.group store.history q (has_left q (past store.history)) (registration q (past store.history))
 
-by_held : (d : Desk) (q : ℕ) (reply : s.Reply) (o : Option Snapshot) (now : Desk) (told : Bool) → reply ≡ take_reply q o → told ≡ is_some o
-    → (o ≡ None → now ≡ d) → ((x : Snapshot) → o ≡ Some x → now ≡ with_held q (Some x) d) → take_played q d reply ≡ replied now (taken_text q told)
-by_held d q reply None now told is t none some =
-    ap (λ (r : s.Reply). take_played q d r) is ∙ ap (λ (x : Desk). replied x (taken_text q false)) (sym (none refl)) ∙ ap (λ (b : Bool). replied now (taken_text q b)) (sym t)
-by_held d q reply (Some x) now told is t none some =
-    ap (λ (r : s.Reply). take_played q d r) is ∙ ap (λ (y : Desk). replied y (taken_text q true)) (sym (some x refl)) ∙ ap (λ (b : Bool). replied now (taken_text q b)) (sym t)
+handed : (q : ℕ) (o : Option Snapshot) → snapshot_in (take_reply q o) ≡ o
+handed q None = refl
+handed q (Some x) = refl
 
-pub take_is : (store store_now : Shown) (claims : List Claim) (groups : List Group) (queries queries_now : List Hold) (q at : ℕ) (h held : Hold) (told : Bool)
+-- what the store's take hands out is what is then held
+pub taken_is : (store store_now : Shown) (claims : List Claim) (groups : List Group) (queries : List Hold) (q : ℕ) (held : Hold)
+    → Makes store store_now 0 (s.Take q) (Some (take_reply q (take_in held))) → taken_at q (desk_of store claims groups queries) ≡ take_in held
+taken_is store store_now claims groups queries q held made = ap (λ (r : s.Reply). snapshot_in r) (sym made.0) ∙ handed q (take_in held)
+
+by_held : (d : Desk) (q : ℕ) (o : Option Snapshot) (now : Desk) → (o ≡ None → now ≡ d) → ((x : Snapshot) → o ≡ Some x → now ≡ with_held q (Some x) d) → now ≡ holding q o d
+by_held d q None now none some = none refl
+by_held d q (Some x) now none some = some x refl
+
+pub take_is : (store store_now : Shown) (claims : List Claim) (groups : List Group) (queries queries_now : List Hold) (q at : ℕ) (h held : Hold)
     → at + 1 ≡ q → h ≡ slice_index_or queries at h → take_in h ≡ None → queries_now ≡ slice_set queries at held
-    → Makes store store_now 0 (s.Take q) (Some (take_reply q (take_in held))) → told ≡ is_some (take_in held)
-    → take_played q (moved (desk_of store claims groups queries) (s.Take q)) (step_at (desk_of store claims groups queries) (s.Take q)).reply
-    ≡ replied (desk_of store_now claims groups queries_now) (taken_text q told)
-take_is store store_now claims groups queries queries_now q at h held told is here free put made t =
+    → Makes store store_now 0 (s.Take q) (Some (take_reply q (take_in held)))
+    → desk_of store_now claims groups queries_now ≡ holding q (taken_at q (desk_of store claims groups queries)) (moved (desk_of store claims groups queries) (s.Take q))
+take_is store store_now claims groups queries queries_now q at h held is here free put made =
     let d = moved (desk_of store claims groups queries) (s.Take q) in
     let now = desk_of store_now claims groups queries_now in
     let change : (qs : List (Option Snapshot)) → map take_in queries_now ≡ qs → now ≡ with_queries d qs =
     λ qs e. ap (λ (x : Shown). desk_of x claims groups queries_now) made.1 ∙ ap (λ (os : List (Option Snapshot)). with_queries d os) e in
     let written = ap (λ (hs : List Hold). map take_in hs) put in
-    by_held d q _ (take_in held) now told (sym made.0) t
+    subst (λ (o : Option Snapshot). now ≡ holding q o d) (sym (taken_is store store_now claims groups queries q held made))
+    (by_held d q (take_in held) now
     (λ e. change (map take_in queries) (written ∙ map-set_same take_in queries at held h (e ∙ sym free ∙ ap (λ (x : Hold). take_in x) here)))
     (λ x e. change (slice_set (map take_in queries) (q - 1) (Some x))
-    (written ∙ map-set take_in queries at held ∙ ap (λ (o : Option Snapshot). slice_set (map take_in queries) at o) e ∙ ap (λ (n : ℕ). slice_set (map take_in queries) n (Some x)) (omega (arith, is))))
+    (written ∙ map-set take_in queries at held ∙ ap (λ (o : Option Snapshot). slice_set (map take_in queries) at o) e ∙ ap (λ (n : ℕ). slice_set (map take_in queries) n (Some x)) (omega (arith, is)))))

@@ -1,5 +1,5 @@
 -- What a script holds beside a store, and what each line replies and makes of both.
-use Rattle.std.specs.Prelude.{◌≡◌, ℕ, zero, suc, ◌-◌, Bool, true, false, ◌==◌, if◌then◌else◌, List, [], ◌∷◌, ◌++◌, Option, None, Some, Result, Ok, Err, codes, length, nat_lt, slice_get, slice_set}
+use Rattle.std.specs.Prelude.{◌≡◌, ℕ, zero, suc, ◌-◌, Bool, true, false, ◌==◌, if◌then◌else◌, List, [], ◌∷◌, ◌++◌, Option, None, Some, Result, Ok, Err, codes, is_some, length, nat_lt, slice_get, slice_set}
 use Rattle.std.specs.List.{list_any}
 use Rattle.query_meaning.specs.declared.expr.Expr.{Expr}
 use Rattle.query_parse.specs.declared.fault.QueryFault.{QueryFault}
@@ -12,7 +12,8 @@ use Rattle.event_history.specs.Histories.{batch_count, event_count, past}
 use Rattle.event_history.specs.Steps as s
 use Rattle.history_core.specs.Shown.{entries_of}
 use Rattle.history_core.specs.Snapshots.{Snapshot}
-use Rattle.script_desk.specs.Texts.{accepted_text, ahead_text, full_text, refused_text, registered_text, told}
+use Rattle.exporter.specs.Pages.{touched_in}
+use Rattle.script_desk.specs.Texts.{accepted_text, ahead_text, full_text, page_text, refused_text, registered_text, told}
 
 -- The store's limits and history, the batches whose claims are held, the groups that are held, the earliest first, and of
 -- each registered query the take of it that is held, if one is.
@@ -151,18 +152,64 @@ abbrev pub taken_text : ℕ → Bool → List ℕ
 taken_text q true = told (codes "taken ") q
 taken_text q false = told (codes "already left ") q
 
-abbrev pub take_played : ℕ → Desk → s.Reply → Played
-take_played q d (s.Taken taking parts past_batches live_batches) =
-    replied (with_held q (Some (record { taking = taking; parts = parts; past_batches = past_batches; live_batches = live_batches })) d) (taken_text q true)
-take_played q d _ = replied d (taken_text q false)
+-- what a take hands out, where the query hasn't left
+abbrev pub snapshot_in : s.Reply → Option Snapshot
+snapshot_in (s.Taken taking parts past_batches live_batches) = Some (record { taking = taking; parts = parts; past_batches = past_batches; live_batches = live_batches })
+snapshot_in _ = None
+
+-- what the store's take at the desk hands out
+abbrev pub taken_at : ℕ → Desk → Option Snapshot
+taken_at q d = snapshot_in (step_at d (s.Take q)).reply
+
+-- the desk that holds what was handed out
+abbrev pub holding : ℕ → Option Snapshot → Desk → Desk
+holding q None d = d
+holding q (Some x) d = with_held q (Some x) d
 
 abbrev pub take_by : ℕ → Desk → Option (Option Snapshot) → Played
-take_by q d (Some None) = take_played q (moved d (s.Take q)) (step_at d (s.Take q)).reply
+take_by q d (Some None) = replied (holding q (taken_at q d) (moved d (s.Take q))) (taken_text q (is_some (taken_at q d)))
 take_by q d _ = no_session q d
 
 -- `take Q`
 abbrev pub play_take : ℕ → Desk → Played
 play_take q d = take_by q d (held_of_query d.queries q)
+
+-- the take that is held of a query
+abbrev pub held_in : Option (Option Snapshot) → Option Snapshot
+held_in None = None
+held_in (Some held) = held
+
+abbrev pub take_of : ℕ → Desk → Option Snapshot
+take_of q d = held_in (held_of_query d.queries q)
+
+abbrev pub page_by : ℕ → Desk → Option Snapshot → Played
+page_by q d None = replied d (told (codes "no page ") q)
+page_by q d (Some x) = replied (with_held q None d) (page_text q x)
+
+-- `page Q`: the page of the held take, whose session is then free
+abbrev pub play_page : ℕ → Desk → Played
+play_page q d = page_by q d (take_of q d)
+
+abbrev pub drained_text : ℕ → Option Snapshot → List ℕ
+drained_text q None = told (codes "already left ") q
+drained_text q (Some x) = page_text q x
+
+abbrev pub drain_by : ℕ → Desk → Option (Option Snapshot) → Played
+drain_by q d (Some None) = replied (moved d (s.Take q)) (drained_text q (taken_at q d))
+drain_by q d _ = no_session q d
+
+-- `drain Q`: a take and its page at once
+abbrev pub play_drain : ℕ → Desk → Played
+play_drain q d = drain_by q d (held_of_query d.queries q)
+
+-- how many batches the page of a take reads, if there is one
+abbrev pub reads_of : Option Snapshot → ℕ
+reads_of None = 0
+reads_of (Some x) = length (touched_in x)
+
+abbrev pub drain_reads : ℕ → Desk → Option (Option Snapshot) → ℕ
+drain_reads q d (Some None) = reads_of (taken_at q d)
+drain_reads q d _ = 0
 
 abbrev pub leave_reply : ℕ → s.Reply → List ℕ
 leave_reply q (s.Left r) = told (codes "already left ") q

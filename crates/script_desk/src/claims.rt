@@ -6,6 +6,7 @@ ghost use Rattle.event_history.specs.Steps as s;
 ghost use Rattle.script_desk.specs.Desks.{Plays, moved, play_claim, play_index, play_lose, play_unclaim, without_claim};
 ghost use Rattle.script_desk.specs.Kept.{IsFirstOn, NoneOn};
 
+use crate::laws::kept_stays;
 use crate::desk::{Desk, SEAT};
 use crate::replies::{push_line, push_words};
 use event_batch::Steps;
@@ -21,6 +22,7 @@ impl Desk {
         ensures { OnOk result (Plays (play_claim self.old) self.new out.old out.new) }
     {
         given_stays();
+        kept_stays();
         self.claims.reserve(1)?;
         let end = self.store.claim(SEAT);
         let _ = self.store.entries();
@@ -52,6 +54,7 @@ impl Desk {
         ensures { OnOk result (self.new ≡ moved self.old (s.Unclaim claim.batch)) }
     {
         given_stays();
+        kept_stays();
         if self.store.unclaim(SEAT, claim).is_err() {
             return Err(AllocError);
         }
@@ -81,6 +84,7 @@ impl Desk {
         ensures steps { steps.new ≤ steps.old + 1 }
     {
         given_stays();
+        kept_stays();
         if batch >= self.store.batches() {
             return push_line(b"no batch ", batch, out);
         }

@@ -6,6 +6,8 @@ ghost use Rattle.script_desk.specs.Desks.{Plays, play_accept, play_rows, refused
 ghost use Rattle.script_desk.specs.Kept.{query_of};
 
 use crate::replies::{push_both, push_line, push_told};
+use crate::laws::kept_stays;
+use archive_cache::Cache;
 use event_batch::Packed;
 use history_core::{AcceptEnd, Accepted, Claim, Group, Limits, Session, Store, Taken, given_stays};
 use std::alloc::{AllocError, Global};
@@ -39,8 +41,8 @@ impl Hold {
     }
 }
 
-/// A store with the claims, groups and takes that a script holds. Contracts see the store's limits and history, and what is
-/// held.
+/// A store with the claims, groups and takes that a script holds, and a cache for its pages. Contracts see the store's limits
+/// and history, and what is held.
 #[derive(Drop)]
 pub struct Desk {
     pub(crate) alloc: Global,
@@ -48,6 +50,7 @@ pub struct Desk {
     pub(crate) claims: Vec<Claim>,
     pub(crate) groups: Vec<Group>,
     pub(crate) queries: Vec<Hold>,
+    pub(crate) cache: Cache,
 }
 
 impl Model for Desk {
@@ -64,24 +67,26 @@ impl Model for Desk {
 
     ghost view = { λ d. desk_of d.store d.claims.items d.groups.items d.queries.items };
 
-    ghost invariant = { λ d. IsDesk d.store d.claims.items d.groups.items d.queries.items };
+    ghost invariant = { λ d. IsDesk d.store d.claims.items d.groups.items d.queries.items d.cache };
 }
 
 impl Desk {
-    /// A store without events, of which nothing is held.
-    pub fn new(alloc: Global, limits: Limits) -> Desk
+    /// A store without events, of which nothing is held, and a cache of so many batches, at least 1.
+    pub fn new(alloc: Global, limits: Limits, cache: u32) -> Result<Desk, AllocError>
         requires some { 1 ≤ limits.group }
         requires few { limits.group ≤ 256 }
         requires room { 1 ≤ limits.inbox }
-        ensures { result ≡ record { limits = limits; history = []; claims = []; groups = []; queries = [] } }
+        requires cache { 1 ≤ cache }
+        ensures { IfOk result (λ desk. desk ≡ record { limits = limits; history = []; claims = []; groups = []; queries = [] }) }
     {
-        Desk {
+        Ok(Desk {
             alloc,
             store: Store::new(alloc, limits),
             claims: Vec::new(alloc),
             groups: Vec::new(alloc),
             queries: Vec::new(alloc),
-        }
+            cache: Cache::new(alloc, cache)?,
+        })
     }
 
     /// `rows`: how many events there are.
@@ -97,6 +102,7 @@ impl Desk {
         ensures back { IfOk result (λ back. back ≡ refused_by packed (step_at self.old (s.Accept packed)).reply) }
     {
         given_stays();
+        kept_stays();
         let rows = u64::from(packed.rows());
         let end = self.store.accept(SEAT, packed);
         let _ = self.store.entries();

@@ -4,6 +4,7 @@ ghost use Rattle.event_history.specs.Steps as s;
 ghost use Rattle.script_desk.specs.Desks.{Plays, play_group, play_seal, seal_new, seal_played, step_at};
 ghost use Rattle.script_desk.specs.Kept.{IsOfGroups};
 
+use crate::laws::kept_stays;
 use crate::desk::{Desk, SEAT};
 use crate::replies::{push_line, push_words};
 use history_core::{Group, SealEnd, given_stays};
@@ -54,6 +55,7 @@ impl Desk {
         ensures { OnOk result (Plays (seal_played group.number self.old) self.new out.old out.new) }
     {
         given_stays();
+        kept_stays();
         let number = group.number;
         let sealed = seal_group(self.alloc, &group)?;
         let end = self.store.publish_group(SEAT, group, sealed);

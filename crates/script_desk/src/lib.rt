@@ -4,7 +4,11 @@
 mod claims;
 mod desk;
 mod groups;
+mod laws;
+mod page_text;
+mod pages;
 mod queries;
 mod replies;
 
 pub use desk::Desk;
+pub use laws::kept_stays;

@@ -1,10 +1,12 @@
 //! The lines on queries.
 ghost use Rattle.std.specs.Prelude.{◌≡◌, ◌≢◌, ◌+◌, None, Some, is_some, IfOk, MatchOption, OnErr, OnOk};
+ghost use Rattle.event_history.specs.Histories.{past};
 ghost use Rattle.event_history.specs.Steps as s;
 ghost use Rattle.history_core.specs.Replies.{IsRegistered, Makes};
-ghost use Rattle.script_desk.specs.Desks.{Plays, held_of_query, moved, play_leave, play_query, play_take, register_played, replied, step_at, take_played, taken_text};
-ghost use Rattle.script_desk.specs.Kept.{query_of, take_in, take_reply};
+ghost use Rattle.script_desk.specs.Desks.{Plays, held_of_query, moved, play_leave, play_query, play_take, register_played, step_at, taken_at, holding};
+ghost use Rattle.script_desk.specs.Kept.{HoldsAccepted, query_of, take_in, take_reply};
 
+use crate::laws::kept_stays;
 use crate::desk::{Desk, Hold, SEAT};
 use crate::replies::{push_both, push_line, push_refused};
 use event_history::Mode;
@@ -31,6 +33,7 @@ impl Desk {
         ensures { OnOk result (Plays (register_played (moved self.old (s.Register mode expr)) (step_at self.old (s.Register mode expr)).reply) self.new out.old out.new) }
     {
         given_stays();
+        kept_stays();
         self.queries.reserve(1)?;
         let end = self.store.register(SEAT, mode, expr);
         let _ = self.store.entries();
@@ -66,7 +69,7 @@ impl Desk {
     }
 
     // The place of a query whose session is held.
-    fn free_place(&self, query: u64) -> Option<usize>
+    pub(crate) fn free_place(&self, query: u64) -> Option<usize>
         ensures { MatchOption result (held_of_query self.now.queries query ≢ Some None) (λ at. (at + 1 ≡ query) × (held_of_query self.now.queries query ≡ Some None)) }
     {
         if query == 0 || query > self.queries.len() as u64 {
@@ -80,12 +83,14 @@ impl Desk {
     }
 
     // Whether the query was told, which then has its take; else it has left.
-    fn take_at(&mut self, at: usize, query: u64) -> Result<bool, AllocError>
+    pub(crate) fn take_at(&mut self, at: usize, query: u64) -> Result<bool, AllocError>
         requires place { at + 1 ≡ query }
         requires free { held_of_query self.old.queries query ≡ Some None }
-        ensures { IfOk result (λ told. take_played query (moved self.old (s.Take query)) (step_at self.old (s.Take query)).reply ≡ replied self.new (taken_text query told)) }
+        ensures desk { IfOk result (λ told. self.new ≡ holding query (taken_at query self.old) (moved self.old (s.Take query))) }
+        ensures told { IfOk result (λ told. told ≡ is_some (taken_at query self.old)) }
     {
         given_stays();
+        kept_stays();
         let _ = self.store.entries();
         let told = take_hold(&mut self.store, &mut self.queries[at])?;
         let _ = self.store.entries();
@@ -97,6 +102,7 @@ impl Desk {
         ensures { OnOk result (Plays (play_leave query self.old) self.new out.old out.new) }
     {
         given_stays();
+        kept_stays();
         if query == 0 || query > self.queries.len() as u64 {
             return push_line(b"no query ", query, out);
         }
@@ -118,6 +124,7 @@ fn take_hold(store: &mut Store, hold: &mut Hold) -> Result<bool, AllocError>
     ensures step { IfOk result (λ told. Makes store.old store.new 0 (s.Take (query_of hold.old)) (Some (take_reply (query_of hold.old) (take_in hold.new)))) }
     ensures told { IfOk result (λ told. told ≡ is_some (take_in hold.new)) }
     ensures of { query_of hold.new ≡ query_of hold.old }
+    ensures accepted { HoldsAccepted (past store.old.history) hold.new }
     ensures memory { OnErr result ((store.new ≡ store.old) × (take_in hold.new ≡ None)) }
 {
     let Hold::Session(session) = mem::replace(hold, Hold::Moved) else {

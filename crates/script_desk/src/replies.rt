@@ -8,7 +8,8 @@ use query_parse::{QueryFault, QueryWhat};
 use std::alloc::AllocError;
 use vast_value::Bytes;
 
-fn push_number(number: u64, out: &mut Bytes) -> Result<(), AllocError>
+/// Puts a number behind what `out` holds.
+pub fn push_number(number: u64, out: &mut Bytes) -> Result<(), AllocError>
     ensures { OnOk result (out.new ≡ out.old ++ decimal number) }
 {
     let mut digits = Digits::new();
