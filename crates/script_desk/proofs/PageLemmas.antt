@@ -1,8 +1,8 @@
 -- Pages of the takes that are held.
-use Rattle.std.proofs.Common.{◌≡◌, ℕ, zero, suc, ◌+◌, ◌-◌, ◌<◌, ◌≤◌, Bool, true, false, cond, List, [], ◌∷◌, ◌++◌, Option, None, Some, is_some, Result, Ok, Err, OnOk, length, map, slice_get, slice_index_or, slice_set, refl, ap, sym, ◌∙◌, subst, arith}
+use Rattle.std.proofs.Common.{◌≡◌, ℕ, zero, suc, ◌+◌, ◌-◌, ◌<◌, ◌≤◌, Bool, true, false, cond, List, [], ◌∷◌, ◌++◌, Option, None, Some, is_some, Result, OnOk, length, map, slice_get, slice_index_or, slice_set, refl, ap, sym, ◌∙◌, subst, arith}
 use Rattle.std.specs.declared.alloc.AllocError.{AllocError}
 use Rattle.std.proofs.lemmas.List.{length-map, map-set}
-use Rattle.archive_cache.specs.Caches.{Caching, Kept, after_ask, decodings, kept_as}
+use Rattle.archive_cache.specs.Caches.{Caching, Kept, after_ask, kept_as}
 use Rattle.event_history.specs.Pieces.{Held}
 use Rattle.event_history.specs.Steps as s
 use Rattle.history_core.specs.declared.answers.Claim.{Claim}
@@ -13,11 +13,10 @@ use Rattle.history_core.specs.declared.taken.Taken.{Taken}
 use Rattle.exporter.specs.declared.finishing.Page.{Page}
 use Rattle.exporter.specs.Asks.{asks_of, loads_in}
 use Rattle.exporter.specs.Finished.{IsPage}
-use Rattle.exporter.specs.Pages.{touched_in}
 use Rattle.script_desk.specs.declared.desk.Hold.{Hold}
 use Rattle.script_desk.specs.declared.desk.Hold.TheVariants as hold
-use Rattle.script_desk.specs.Desks.{Desk, Played, Plays, drain_by, drained_text, held_in, held_of_query, holding, moved, page_by, play_drain, play_page, reads_of, replied, take_of, taken_at, with_held, with_queries}
-use Rattle.script_desk.specs.Kept.{desk_of, query_of, take_in}
+use Rattle.script_desk.specs.Desks.{Desk, Played, Plays, drain_by, drained_text, held_in, held_of_query, holding, moved, page_by, play_drain, play_page, replied, take_of, taken_at, with_held, with_queries}
+use Rattle.script_desk.specs.Kept.{desk_of, take_in}
 use Rattle.script_desk.specs.Texts.{page_lines, page_text}
 use Rattle.script_desk.proofs.PlayLemmas.{plays}
 use Rattle.script_desk.proofs.QueryLemmas.{held_at, place_there}

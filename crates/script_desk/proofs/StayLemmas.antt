@@ -1,5 +1,5 @@
 -- That takes and the cache stay good as the store's history goes on.
-use Rattle.std.proofs.Common.{◌≡◌, ℕ, List, ◌++◌, sym, subst, arith, length, [], ◌<◌, ap, ◌∙◌, Some, None, nat_eq, All, ◌∷◌}
+use Rattle.std.proofs.Common.{◌≡◌, ℕ, List, ◌++◌, sym, subst, arith, length, [], ap, ◌∙◌, Some, None, nat_eq, All}
 use Rattle.std.specs.Map.{lookup}
 use Rattle.std.proofs.lemmas.List.{reverse-append}
 use Rattle.event_history.specs.declared.entry.Entry.{Entry}
@@ -62,7 +62,7 @@ keeps_none before cache none number what kept =
     absurd cc
 
 nowhere : {X : Type 0} (P : X → Type 0) (xs : List X) → xs ≡ [] → All P xs
-nowhere P xs none k d h = absurd (omega (arith, h, ap (λ (ys : List X). length ys) none))
+nowhere {X = X} P xs none k d h = absurd (omega (arith, h, ap (λ (ys : List X). length ys) none))
 
 pub new_desk : (store : Shown) (claims : List Claim) (groups : List Group) (queries : List Hold) (cache : Caching) → store.history ≡ [] → claims ≡ [] → groups ≡ [] → queries ≡ []
     → cache.entries ≡ [] → IsDesk store claims groups queries cache

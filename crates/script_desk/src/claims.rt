@@ -6,8 +6,8 @@ ghost use Rattle.event_history.specs.Steps as s;
 ghost use Rattle.script_desk.specs.Desks.{Plays, moved, play_claim, play_index, play_lose, play_unclaim, without_claim};
 ghost use Rattle.script_desk.specs.Kept.{IsFirstOn, NoneOn};
 
-use crate::laws::kept_stays;
 use crate::desk::{Desk, SEAT};
+use crate::laws::kept_stays;
 use crate::replies::{push_line, push_words};
 use event_batch::Steps;
 use history_core::{Claim, PublishEnd, given_stays};

@@ -5,8 +5,8 @@ ghost use Rattle.event_history.specs.Steps as s;
 ghost use Rattle.script_desk.specs.Desks.{Plays, play_accept, play_rows, refused_by, step_at};
 ghost use Rattle.script_desk.specs.Kept.{query_of};
 
-use crate::replies::{push_both, push_line, push_told};
 use crate::laws::kept_stays;
+use crate::replies::{push_both, push_line, push_told};
 use archive_cache::Cache;
 use event_batch::Packed;
 use history_core::{AcceptEnd, Accepted, Claim, Group, Limits, Session, Store, Taken, given_stays};

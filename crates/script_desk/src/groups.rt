@@ -4,8 +4,8 @@ ghost use Rattle.event_history.specs.Steps as s;
 ghost use Rattle.script_desk.specs.Desks.{Plays, play_group, play_seal, seal_new, seal_played, step_at};
 ghost use Rattle.script_desk.specs.Kept.{IsOfGroups};
 
-use crate::laws::kept_stays;
 use crate::desk::{Desk, SEAT};
+use crate::laws::kept_stays;
 use crate::replies::{push_line, push_words};
 use history_core::{Group, SealEnd, given_stays};
 use indexer::seal_group;

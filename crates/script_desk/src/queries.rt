@@ -6,8 +6,8 @@ ghost use Rattle.history_core.specs.Replies.{IsRegistered, Makes};
 ghost use Rattle.script_desk.specs.Desks.{Plays, held_of_query, moved, play_leave, play_query, play_take, register_played, step_at, taken_at, holding};
 ghost use Rattle.script_desk.specs.Kept.{HoldsAccepted, query_of, take_in, take_reply};
 
-use crate::laws::kept_stays;
 use crate::desk::{Desk, Hold, SEAT};
+use crate::laws::kept_stays;
 use crate::replies::{push_both, push_line, push_refused};
 use event_history::Mode;
 use history_core::{LeaveEnd, RegisterEnd, Store, TakeEnd, given_stays};

@@ -1,4 +1,4 @@
-use Rattle.std.proofs.Common.{◌≡◌, ◌+◌, ◌≤◌, length, ap, subst, arith}
+use Rattle.std.proofs.Common.{◌≡◌, ap, subst, arith}
 use Rattle.exporter.specs.Asks.{KeepsOnly, asks_of, loads_in}
 use Rattle.exporter.specs.Pages.{touched_in}
 use Rattle.script_desk.specs.declared.desk.Hold.{Hold}

@@ -1,4 +1,4 @@
-use Rattle.std.proofs.Common.{◌≡◌, ◌+◌, ◌≤◌, None, Some, Option, ap, arith, OnOk, sym, ◌∙◌, is_some, true, false}
+use Rattle.std.proofs.Common.{◌≡◌, None, Some, Option, ap, arith}
 use Rattle.history_core.specs.Snapshots.{Snapshot}
 use Rattle.script_desk.specs.Desks.{drain_reads, held_of_query, reads_of, take_of, taken_at}
 use Rattle.script_desk.proofs.PageLemmas.{drain_steps, drained, not_drained}

@@ -1,4 +1,4 @@
-use Rattle.std.proofs.Common.{◌≡◌, [], ap}
+use Rattle.std.proofs.Common.{ap}
 use Rattle.archive_cache.specs.Caches.{Caching}
 use Rattle.history_core.specs.Shown.{Shown}
 use Rattle.script_desk.proofs.StayLemmas.{new_desk}

@@ -1,4 +1,4 @@
-use Rattle.std.proofs.Common.{◌≡◌, ◌+◌, ◌<◌, ◌≤◌, length, map, None, Some, Option, OnOk, true, is_some, slice_set, ap, ◌∙◌, sym, subst, arith}
+use Rattle.std.proofs.Common.{◌≡◌, map, Option, OnOk, true, is_some, slice_set, ap, ◌∙◌, sym, subst, arith}
 use Rattle.event_history.specs.Histories.{past}
 use Rattle.history_core.specs.Snapshots.{Snapshot}
 use Rattle.script_desk.specs.declared.desk.Hold.{Hold}

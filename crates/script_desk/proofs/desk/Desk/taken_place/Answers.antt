@@ -1,4 +1,4 @@
-use Rattle.std.proofs.Common.{◌≡◌, ◌+◌, ◌-◌, ◌<◌, ◌≤◌, length, None, Some, Option, true, is_some, ap, ◌∙◌, sym, subst, arith}
+use Rattle.std.proofs.Common.{◌≡◌, ◌+◌, ◌-◌, ◌<◌, length, None, Option, true, is_some, ap, ◌∙◌, subst, arith}
 use Rattle.history_core.specs.Snapshots.{Snapshot}
 use Rattle.script_desk.specs.declared.desk.Hold.{Hold}
 use Rattle.script_desk.specs.Desks.{Desk, take_of}
@@ -11,10 +11,12 @@ returns-in-Taken c =
     let i = c.self.inside in
     let q = c.args.query in
     let is : q - 1 + 1 ≡ q = omega arith in
-    let there : q - 1 < length i.queries.items = omega arith in
-    (is, subst (λ (d : Desk). is_some (take_of q d) ≡ true) c.self.view_is
-    (ap (λ (o : Option Snapshot). is_some o)
-    (take_here i.queries.items q (q - 1) c.index.result.now is there c.index.ensures ∙ ap (λ (x : Hold). take_in x) c.in-Taken.is)))
+    let there : q - 1 < length i.queries.items = omega arith in (
+      is,
+      subst (λ (d : Desk). is_some (take_of q d) ≡ true) c.self.view_is
+          (ap (λ (o : Option Snapshot). is_some o)
+          (take_here i.queries.items q (q - 1) c.index.result.now is there c.index.ensures ∙ ap (λ (x : Hold). take_in x) c.in-Taken.is)),
+    )
 
 pub returns-in_default : goal.returns-in_default
 returns-in_default c =
