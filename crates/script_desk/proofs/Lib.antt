@@ -3,3 +3,4 @@ mod PageLemmas
 mod PlayLemmas
 mod QueryLemmas
 mod StayLemmas
+mod Vectors

@@ -9,6 +9,8 @@ mod page_text;
 mod pages;
 mod queries;
 mod replies;
+#[cfg(test)]
+mod tests;
 
 pub use desk::Desk;
 pub use laws::kept_stays;
