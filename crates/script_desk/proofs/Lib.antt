@@ -1,0 +1,6 @@
+mod ClaimLemmas
+mod PageLemmas
+mod PlayLemmas
+mod QueryLemmas
+mod StayLemmas
+mod Vectors

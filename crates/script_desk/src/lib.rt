@@ -1,0 +1,16 @@
+//! A store as the lines of a script use it: each line's reply, and what a script holds between lines.
+#![tactic(auto)]
+
+mod claims;
+mod desk;
+mod groups;
+mod laws;
+mod page_text;
+mod pages;
+mod queries;
+mod replies;
+#[cfg(test)]
+mod tests;
+
+pub use desk::Desk;
+pub use laws::kept_stays;
