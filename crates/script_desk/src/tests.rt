@@ -73,8 +73,8 @@ fn play<L: Ledger>(
     alloc: Global,
     desk: &mut Desk,
     line: Line,
-    blank: Blank,
     out: &mut Bytes,
+    blank: Blank,
 ) -> Result<(), Fail>
     requires name { blank.name ≡ L.name }
     requires parts { blank.parts ≡ L.parts }
@@ -102,7 +102,7 @@ fn play<L: Ledger>(
 }
 
 fn play_one(alloc: Global, desk: &mut Desk, line: Line, out: &mut Bytes) -> Result<(), Fail> {
-    play::<Brand>(alloc, desk, line, Blank::new(1), out)
+    play::<Brand>(alloc, desk, line, out, Blank::new(1))
 }
 
 fn replies(alloc: Global, lines: &[(Line, &str)]) -> Result<(), Fail> {
