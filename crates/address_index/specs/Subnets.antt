@@ -1,5 +1,5 @@
 -- What a subnet index stands for.
-use Rattle.std.specs.Prelude.{◌≡◌, ℕ, ◌-◌, ◌%◌, ◌^◌, ◌<◌, ◌≤◌, Bool, ◌&&◌, List, Option, nat_eq, nat_le}
+use Rattle.std.specs.Prelude.{◌≡◌, ℕ, ◌-◌, ◌%◌, ◌^◌, ◌<◌, ◌≤◌, Bool, ◌&&◌, List, Option, nat_eq, nat_le, nat_lt, if◌then◌else◌}
 use Rattle.bits_law.specs.Numbers.{has_bit}
 use Rattle.bits_law.specs.Contents.{Contents, HoldsKeys}
 use Rattle.address_index.specs.Addresses.{address_bit, within}
@@ -18,9 +18,9 @@ pub record IsSubnet (net : Subnet) : Type 0 where
   pub small : net.base < 2 ^ 128
   pub masked : net.base % 2 ^ (128 - net.bits) ≡ 0
 
--- the eight bits of a subnet's length, the highest first
-abbrev pub length_bit : ℕ → Subnet → Bool
-length_bit j net = has_bit net.bits (7 - j)
+-- column j: a bit of the base, or from column 128 on of the length, whose highest of eight comes first
+abbrev pub net_bit : ℕ → Subnet → Bool
+net_bit j net = if nat_lt j 128 then address_bit j net.base else has_bit net.bits (135 - j)
 
 -- whether a subnet is the given one
 abbrev pub is_net : ℕ → ℕ → Subnet → Bool
@@ -34,11 +34,6 @@ net_within base bits net = within base bits net.base && nat_le bits net.bits
 abbrev pub net_covers : ℕ → ℕ → Subnet → Bool
 net_covers base bits net = nat_le net.bits bits && within base net.bits net.base
 
--- column j of the bases is a bit of the subnet's base
-abbrev pub base_bit : ℕ → Subnet → Bool
-base_bit j net = address_bit j net.base
-
--- the columns are those of the subnets' bases and lengths
-pub record HoldsNets (addresses lengths : Contents) (keys : List (Option Subnet)) : Type 0 where
-  pub bases : HoldsKeys 128 base_bit IsSubnet addresses keys
-  pub sizes : HoldsKeys 8 length_bit IsSubnet lengths keys
+-- the columns are those of the subnets
+abbrev pub HoldsNets : Contents → List (Option Subnet) → Type 0
+HoldsNets table keys = HoldsKeys 136 net_bit IsSubnet table keys

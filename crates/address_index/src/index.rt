@@ -1,7 +1,7 @@
 ghost use Rattle.std.specs.Prelude.{◌≡◌, ◌+◌, ◌-◌, ◌^◌, ◌<◌, ◌≤◌, ◌++◌, ◌&&◌, List, [], length, IfOk, OnOk, OnErr, IfErr, Option, ℕ, ◌%◌, nat_eq, true};
 ghost use Rattle.bits_law.specs.Keys.{answers, with_gap, with_key};
 ghost use Rattle.bits_law.specs.Refusal.{refusal, rows_to};
-ghost use Rattle.address_index.specs.Addresses.{address_bit, within, Holds};
+ghost use Rattle.address_index.specs.Addresses.{address_bit, within, HasAddresses, Holds};
 
 use bits_law::{Bits, BitsEnd, Order, RowBits, Table};
 use std::alloc::{AllocError, Global};
@@ -123,7 +123,7 @@ impl<B: Bits> AddrIndex<B> {
         ensures rows { IfOk result (λ b. length (B.bits b) ≡ length self.now.table.present) }
         ensures keys { IfOk result (λ b. (keys : List (Option ℕ)) → Holds self.now.table keys → B.bits b ≡ answers (λ key. nat_eq key addr) keys) }
     {
-        self.within(addr, 128)
+        rows_equal(&self.table, addr)
     }
 
     /// The rows whose address has the first `bits` bits of `base`.
@@ -133,17 +133,36 @@ impl<B: Bits> AddrIndex<B> {
         ensures rows { IfOk result (λ b. length (B.bits b) ≡ length self.now.table.present) }
         ensures keys { IfOk result (λ b. (keys : List (Option ℕ)) → Holds self.now.table keys → B.bits b ≡ answers (within base bits) keys) }
     {
-        let table = &self.table;
-        if bits == 0 {
-            return table.present();
-        }
-        let rest = 128 - bits;
-        let part = base >> rest;
-        if bits <= 64 {
-            return table.ask(0, bits as usize, Order::Eq, part as u64);
-        }
-        let high = table.ask(0, 64, Order::Eq, (base >> 64) as u64)?;
-        let low = part % (1u128 << (bits - 64));
-        table.ask_among(&high, 64, bits as usize - 64, Order::Eq, low as u64)
+        rows_within(&self.table, base, bits)
     }
+}
+
+/// The rows whose address is `addr`, in a table whose first 128 columns are those of addresses.
+pub(crate) fn rows_equal<B: Bits>(table: &Table<B>, addr: u128) -> Result<B, AllocError>
+    requires wide { 128 ≤ length table.now.columns }
+    ensures rows { IfOk result (λ b. length (B.bits b) ≡ length table.now.present) }
+    ensures keys { IfOk result (λ b. (keys : List (Option ℕ)) → HasAddresses table.now keys → B.bits b ≡ answers (λ key. nat_eq key addr) keys) }
+{
+    rows_within(table, addr, 128)
+}
+
+/// The rows whose address has the first `bits` bits of `base`, in a table whose first 128 columns are those of
+/// addresses.
+pub(crate) fn rows_within<B: Bits>(table: &Table<B>, base: u128, bits: u8) -> Result<B, AllocError>
+    requires wide { 128 ≤ length table.now.columns }
+    requires narrow { bits ≤ 128 }
+    ensures rows { IfOk result (λ b. length (B.bits b) ≡ length table.now.present) }
+    ensures keys { IfOk result (λ b. (keys : List (Option ℕ)) → HasAddresses table.now keys → B.bits b ≡ answers (within base bits) keys) }
+{
+    if bits == 0 {
+        return table.present();
+    }
+    let rest = 128 - bits;
+    let part = base >> rest;
+    if bits <= 64 {
+        return table.ask(0, bits as usize, Order::Eq, part as u64);
+    }
+    let high = table.ask(0, 64, Order::Eq, (base >> 64) as u64)?;
+    let low = part % (1u128 << (bits - 64));
+    table.ask_among(&high, 64, bits as usize - 64, Order::Eq, low as u64)
 }

@@ -37,7 +37,7 @@ keys_unset (keys.Ports p) cells row s = record {
   transports = covers_unset (digits.Holds p.transports.coding p.transports.bases p.transports.table) transport_key cells row cell.Unset refl s.transports;
 }
 keys_unset (keys.Addresses a) cells row s = covers_unset (addresses.Holds a.index.table) address_key cells row cell.Unset refl s
-keys_unset (keys.Subnets n) cells row s = covers_unset (HoldsNets n.index.addresses.table n.index.lengths) subnet_key cells row cell.Unset refl s
+keys_unset (keys.Subnets n) cells row s = covers_unset (HoldsNets n.index.table) subnet_key cells row cell.Unset refl s
 keys_unset (keys.Texts t) cells row s = covers_unset (texts.Holds t.index.table) text_key cells row cell.Unset refl s
 keys_unset (keys.Buckets b) cells row s = covers_unset (sets.Holds b.index.table) bucket_key cells row cell.Unset refl s
 
@@ -62,7 +62,7 @@ keys_items (keys.Ports p) cells row items h s = record {
   transports = covers_unset (digits.Holds p.transports.coding p.transports.bases p.transports.table) transport_key cells row (cell.Many items) refl s.transports;
 }
 keys_items (keys.Addresses a) cells row items h s = covers_unset (addresses.Holds a.index.table) address_key cells row (cell.Many items) refl s
-keys_items (keys.Subnets n) cells row items h s = covers_unset (HoldsNets n.index.addresses.table n.index.lengths) subnet_key cells row (cell.Many items) refl s
+keys_items (keys.Subnets n) cells row items h s = covers_unset (HoldsNets n.index.table) subnet_key cells row (cell.Many items) refl s
 keys_items (keys.Texts t) cells row items h s = covers_unset (texts.Holds t.index.table) text_key cells row (cell.Many items) refl s
 keys_items (keys.Buckets b) cells row items h s = absurd cc
 
@@ -74,7 +74,7 @@ keys_gap (keys.Ports p) cells rows s = record {
   transports = covers_gap (digits.Holds p.transports.coding p.transports.bases p.transports.table) transport_key cells rows s.transports;
 }
 keys_gap (keys.Addresses a) cells rows s = covers_gap (addresses.Holds a.index.table) address_key cells rows s
-keys_gap (keys.Subnets n) cells rows s = covers_gap (HoldsNets n.index.addresses.table n.index.lengths) subnet_key cells rows s
+keys_gap (keys.Subnets n) cells rows s = covers_gap (HoldsNets n.index.table) subnet_key cells rows s
 keys_gap (keys.Texts t) cells rows s = covers_gap (texts.Holds t.index.table) text_key cells rows s
 keys_gap (keys.Buckets b) cells rows s = covers_gap (sets.Holds b.index.table) bucket_key cells rows s
 
@@ -111,8 +111,8 @@ set_addresses a bits f cells s = everywhere bits (λ x. meets (λ _. true) (addr
     kept (cell.One w) = refl
     kept (cell.Many items) = refl
 
-pub set_subnets : (n : Subnets) (bits : List Bool) → ((held : List (Option (Subnet))) → HoldsNets n.index.addresses.table n.index.lengths held → bits ≡ answers (λ _. true) held) → (cells : List (Option Cell)) → KeysStand (keys.Subnets n) cells → Answers bits (is_kept (keys.Subnets n)) cells
-set_subnets n bits f cells s = everywhere bits (λ x. meets (λ _. true) (subnet_key x)) (is_kept (keys.Subnets n)) cells kept (covers_answers (HoldsNets n.index.addresses.table n.index.lengths) subnet_key (λ _. true) bits cells s f)
+pub set_subnets : (n : Subnets) (bits : List Bool) → ((held : List (Option (Subnet))) → HoldsNets n.index.table held → bits ≡ answers (λ _. true) held) → (cells : List (Option Cell)) → KeysStand (keys.Subnets n) cells → Answers bits (is_kept (keys.Subnets n)) cells
+set_subnets n bits f cells s = everywhere bits (λ x. meets (λ _. true) (subnet_key x)) (is_kept (keys.Subnets n)) cells kept (covers_answers (HoldsNets n.index.table) subnet_key (λ _. true) bits cells s f)
   where
     kept : (x : Cell) → meets (λ _. true) (subnet_key x) ≡ is_kept (keys.Subnets n) x
     kept cell.Unset = refl

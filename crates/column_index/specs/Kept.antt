@@ -55,7 +55,7 @@ abbrev pub AddressesStand : Addresses → List (Option Cell) → Type 0
 AddressesStand a cells = Covers (addresses.Holds a.index.table) (keys_of address_key cells)
 
 abbrev pub SubnetsStand : Subnets → List (Option Cell) → Type 0
-SubnetsStand n cells = Covers (HoldsNets n.index.addresses.table n.index.lengths) (keys_of subnet_key cells)
+SubnetsStand n cells = Covers (HoldsNets n.index.table) (keys_of subnet_key cells)
 
 abbrev pub TextsStand : Texts → List (Option Cell) → Type 0
 TextsStand t cells = Covers (texts.Holds t.index.table) (keys_of text_key cells)
@@ -95,7 +95,7 @@ keys_rows (keys.Flags f) = length f.index.table.present
 keys_rows (keys.Numbers n) = length n.index.table.present
 keys_rows (keys.Ports p) = max (length p.numbers.table.present) (length p.transports.table.present)
 keys_rows (keys.Addresses a) = length a.index.table.present
-keys_rows (keys.Subnets n) = length n.index.lengths.present
+keys_rows (keys.Subnets n) = length n.index.table.present
 keys_rows (keys.Texts t) = length t.index.table.present
 keys_rows (keys.Buckets b) = length b.index.table.present
 

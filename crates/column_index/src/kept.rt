@@ -56,7 +56,6 @@ pub(crate) struct Addresses {
 #[derive(Drop)]
 pub(crate) struct Subnets {
     pub(crate) index: NetIndex<Bitmap>,
-    pub(crate) alloc: Global,
 }
 
 /// Of strings and enums: their length and their first eight bytes.

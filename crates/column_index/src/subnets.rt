@@ -17,7 +17,6 @@ use address_index::NetIndex;
 use bits_law::{Bits, BitsEnd};
 use query_meaning::Rel;
 use std::alloc::{AllocError, Global};
-use std::mem;
 use vast_value::{Net, Value};
 
 /// The subnet of a value, and that of every address of one that is none.
@@ -33,36 +32,34 @@ fn subnet_of(value: &Value) -> Net
 impl Subnets {
     pub(crate) fn new(alloc: Global) -> Result<Self, AllocError>
         ensures stands { IfOk result (λ n. SubnetsStand n []) }
-        ensures rows { IfOk result (λ n. length n.index.lengths.present ≡ 0) }
+        ensures rows { IfOk result (λ n. length n.index.table.present ≡ 0) }
     {
         Ok(Subnets {
             index: NetIndex::new(alloc)?,
-            alloc,
         })
     }
 
     /// Puts a value at `row`.
     pub(crate) fn put(&mut self, row: u64, value: &Value) -> Result<(), BitsEnd>
-        requires { length self.old.index.lengths.present ≤ row }
+        requires { length self.old.index.table.present ≤ row }
         ensures stands { OnOk result ((cells : List (Option Cell)) → length cells ≤ row → SubnetsStand self.old cells → SubnetsStand self.new (with_key cells row (One value.now))) }
-        ensures rows { length self.new.index.lengths.present ≤ row + 1 }
+        ensures rows { length self.new.index.table.present ≤ row + 1 }
     {
         let net = subnet_of(value);
-        let index = mem::replace(&mut self.index, NetIndex::new(self.alloc)?);
-        self.index = index.add(row, net.base, net.bits)?;
+        self.index.put(row, net.base, net.bits)?;
         Ok(())
     }
 
     /// Adds the rows of another, this one having `rows` rows.
     pub(crate) fn append(self, rows: u64, other: &Self) -> Result<Self, BitsEnd>
-        requires { length self.index.lengths.present ≤ rows }
+        requires { length self.index.table.present ≤ rows }
         ensures stands { IfOk result (λ n. (cells more : List (Option Cell)) → length cells ≡ rows → SubnetsStand self cells → SubnetsStand other.now more → SubnetsStand n (cells ++ more)) }
-        ensures rows { IfOk result (λ n. length n.index.lengths.present ≡ rows + length other.now.index.lengths.present) }
+        ensures rows { IfOk result (λ n. length n.index.table.present ≡ rows + length other.now.index.table.present) }
     {
-        let Subnets { index, alloc } = self;
+        let Subnets { index } = self;
         let index = index.pad(rows)?;
         let index = index.append(&other.index)?;
-        Ok(Subnets { index, alloc })
+        Ok(Subnets { index })
     }
 
     /// The rows where a relation to the literal surely holds and may hold.

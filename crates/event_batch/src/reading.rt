@@ -645,6 +645,7 @@ pub(crate) fn check_spelled(alloc: Global, bytes: &[u8]) -> Result<(), PackedEnd
 }
 
 /// The batch that the bytes spell. What was read is known to be a batch, so its rows are not tested against the layout.
+/// Copies of its layout share their columns, since each event that is found has one.
 pub(crate) fn batch_in(alloc: Global, bytes: &[u8]) -> Result<Batch, AllocError>
     requires { IsSpelled bytes.now }
     ensures { IfOk result (λ batch. content_of batch ≡ (said_in bytes.now).content) }
@@ -652,6 +653,9 @@ pub(crate) fn batch_in(alloc: Global, bytes: &[u8]) -> Result<Batch, AllocError>
     match parts_at(alloc, bytes) {
         Err(PackedEnd::Memory) => Err(AllocError),
         Err(PackedEnd::NotABatch) => unreachable!(),
-        Ok(parts) => Ok(Batch::of_fitting(parts.source, parts.layout, parts.rows)),
+        Ok(parts) => {
+            let layout = parts.layout.share(alloc)?;
+            Ok(Batch::of_fitting(parts.source, layout, parts.rows))
+        }
     }
 }

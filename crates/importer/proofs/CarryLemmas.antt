@@ -1,6 +1,7 @@
 -- How rows are carried.
-use Rattle.std.proofs.Common.{◌≡◌, ℕ, ◌+◌, Bool, true, false, ◌&&◌, ◌||◌, if◌then◌else◌, List, [], ◌∷◌, ◌++◌, Option, None, Some, length, map, refl, ap, sym, ◌∙◌, subst, arith, append_assoc, length-append}
+use Rattle.std.proofs.Common.{◌≡◌, ℕ, ◌+◌, ◌≤◌, Bool, true, false, ◌&&◌, ◌||◌, if◌then◌else◌, List, [], ◌∷◌, ◌++◌, Option, None, Some, length, map, refl, ap, sym, ◌∙◌, subst, arith, append_assoc, length-append}
 use Rattle.std.specs.List.{list_any, slice_get}
+use Rattle.std.proofs.lemmas.Option.{slice_get_past}
 use Rattle.vast_value.specs.declared.cell.Cell.{Cell}
 use Rattle.vast_value.specs.declared.column.Column.{Column}
 use Rattle.vast_value.specs.declared.cell.Cell.TheVariants.{Unset, One, Many}
@@ -74,7 +75,7 @@ cell_twice over (One (value.Port p Tcp)) = refl
 cell_twice over (One (value.Port p Udp)) = refl
 cell_twice over (One (value.Port p Icmp)) = refl
 
-cell_unknown : (x : Cell) → carried_cell Unknown x ≡ x
+pub cell_unknown : (x : Cell) → carried_cell Unknown x ≡ x
 cell_unknown Unset = refl
 cell_unknown (Many items) = refl
 cell_unknown (One (value.Bool b)) = refl
@@ -200,15 +201,6 @@ cells_carried over (f ∷ fs) (x ∷ xs) fits =
     let has = both_hold (has_kind x f.kind) (is_small x) parts.0 in
     rw (column_carries over f.kind x has.0, cells_carried over fs xs parts.1) refl
 
-fits_count : (fields : List Field) (row : List Cell) → fits_fields fields row ≡ true → length row ≡ length fields
-fits_count [] [] fits = refl
-fits_count [] (x ∷ xs) fits = cc
-fits_count (f ∷ fs) [] fits = cc
-fits_count (f ∷ fs) (x ∷ xs) fits =
-    let parts = both_hold (fits_field f x) (fits_fields fs xs) fits in
-    let rest = fits_count fs xs parts.1 in
-    omega (arith, rest)
-
 -- ---- the place of the protocol
 
 get_behind : (before : List Cell) (x : Cell) (xs : List Cell) → slice_get (before ++ x ∷ xs) (length before) ≡ Some x
@@ -221,22 +213,45 @@ by_place true true at before x xs other rest count same = subst (λ (n : ℕ). t
 by_place true false at before x xs other rest count same = refl
 by_place false text at before x xs other rest count same = same
 
-place_from : (at : ℕ) (before : List Cell) (fields : List Field) (row : List Cell) → length before ≡ at → length row ≡ length fields
+by_past : (named text : Bool) (at : ℕ) (row : List Cell) (other : Option ℕ) → length row ≤ at → transport_at other row ≡ Unknown
+    → transport_at (if named then (if text then Some at else None) else other) row ≡ Unknown
+by_past true true at row other past rest = rw (slice_get_past row at past) refl
+by_past true false at row other past rest = refl
+by_past false text at row other past rest = rest
+
+-- a row has no cell so far on
+past_row : (at : ℕ) (fields : List Field) (row : List Cell) → length row ≤ at → transport_at (protocol_from at fields) row ≡ Unknown
+past_row at [] row past = refl
+past_row at (f ∷ fs) row past =
+    by_past (is_protocol_name f.name) (is_text_kind f.kind) at row (protocol_from (at + 1) fs) past (past_row (at + 1) fs row (omega arith))
+
+place_from : (at : ℕ) (before : List Cell) (fields : List Field) (row : List Cell) → length before ≡ at
     → transport_at (protocol_from at fields) (before ++ row) ≡ row_transport fields row
-place_from at before [] row count same = refl
-place_from at before (f ∷ fs) [] count same = absurd (omega (arith, same))
-place_from at before (f ∷ fs) (x ∷ xs) count same =
+place_from at before [] row count = refl
+place_from at before (f ∷ fs) [] count = past_row at (f ∷ fs) (before ++ []) (omega (arith, length-append before []))
+place_from at before (f ∷ fs) (x ∷ xs) count =
     let longer : length (before ++ x ∷ []) ≡ at + 1 = omega (arith, count, length-append before (x ∷ [])) in
-    let rest = place_from (at + 1) (before ++ x ∷ []) fs xs longer (omega (arith, same)) in
+    let rest = place_from (at + 1) (before ++ x ∷ []) fs xs longer in
     by_place (is_protocol_name f.name) (is_text_kind f.kind) at before x xs (protocol_from (at + 1) fs) (row_transport fs xs) count
     (ap (λ (cells : List Cell). transport_at (protocol_from (at + 1) fs) cells) (sym (append_assoc before (x ∷ []) xs)) ∙ rest)
 
 carry_by : (ports : Bool) (fields : List Field) (row : List Cell) → has_ports fields ≡ ports → fits_fields fields row ≡ true
     → map (carried_cell (transport_at (if ports then protocol_from 0 fields else None) row)) row ≡ carried fields row
 carry_by true fields row is fits =
-    ap (λ (t : Transport). map (carried_cell t) row) (place_from 0 [] fields row refl (fits_count fields row fits))
+    ap (λ (t : Transport). map (carried_cell t) row) (place_from 0 [] fields row refl)
     ∙ cells_carried (row_transport fields row) fields row fits
 carry_by false fields row is fits = cells_unknown row ∙ sym (without_ports (row_transport fields row) fields row is)
+
+-- whatever the row is
+place_by : (ports : Bool) (fields : List Field) (row : List Cell) → has_ports fields ≡ ports
+    → carried fields row ≡ carried_cells (transport_at (if ports then protocol_from 0 fields else None) row) fields row
+place_by true fields row is = ap (λ (t : Transport). carried_cells t fields row) (sym (place_from 0 [] fields row refl))
+place_by false fields row is = without_ports (row_transport fields row) fields row is ∙ sym (without_ports Unknown fields row is)
+
+pub carried_place : (place : Option ℕ) (fields : List Field) (row : List Cell) → place ≡ protocol_place fields
+    → carried fields row ≡ carried_cells (transport_at place row) fields row
+carried_place place fields row is =
+    place_by (has_ports fields) fields row refl ∙ ap (λ (p : Option ℕ). carried_cells (transport_at p row) fields row) (sym is)
 
 pub carry_is : (place : Option ℕ) (fields : List Field) (row : List Cell) → place ≡ protocol_place fields → fits_fields fields row ≡ true
     → map (carried_cell (transport_at place row)) row ≡ carried fields row

@@ -11,17 +11,23 @@ use Rattle.source_block.proofs.TakeLemmas.{prepend_nothing, prepend_twice}
 use Rattle.zeek_log.specs.declared.step.ZeekEnd.{ZeekEnd}
 use Rattle.zeek_log.specs.declared.step.ZeekEnd.TheVariants as end
 use Rattle.zeek_log.specs.Reader as reader
-use Rattle.zeek_log.specs.Reader.{State, Reads, Last, Ended as EndedState, Reading, to_come, Follows, CountsOf, StepFits, heading_told}
+use Rattle.zeek_log.specs.Reader.{State, Reads, Last, Ended as EndedState, Reading, to_come, Follows, CountsOf, StepFits, StepHas, heading_or_none, heading_told, step_at}
+use Rattle.zeek_log.specs.declared.step.Moved.{Moved}
+use Rattle.zeek_log.specs.declared.step.Moved.TheVariants as moved
 use Rattle.zeek_log.specs.declared.step.Step.{Step}
 use Rattle.zeek_log.specs.declared.step.Step.TheVariants as step
 use Rattle.zeek_log.specs.Steps.{Steps, ended, first, step_of}
 use Rattle.zeek_log.specs.Table.{LogStep, Head, Line}
 use Rattle.importer.specs.declared.ends.ImportEnd.{ImportEnd}
 use Rattle.importer.specs.declared.ends.ImportEnd.TheVariants as import
-use Rattle.importer.specs.Carrying.{carried, protocol_place}
+use Rattle.importer.specs.Carrying.{carried, protocol_place, row_transport}
 use Rattle.importer.proofs.CarryLemmas.{still_fits}
-use Rattle.importer.specs.Coming.{Standing, Log, Ended, Follow, Anything, Nothing, Lost, MayFollow, IsAfterEnd, IsAfterState, IsKnownBy, IsAt, Leads, Goes, StepsOn, HasFaults, IsReadFault, IsReadFaultEnd, IsReadFaultState, fields_told, heading_at, steps_to_come}
-use Rattle.importer.specs.Logs.{CarriesBy}
+use Rattle.importer.proofs.CurrentLemmas.{carried_count, carried_none}
+use Rattle.importer.specs.Coming.{Standing, Log, Ended, Follow, Anything, Nothing, Lost, MayFollow, IsAfterEnd, IsAfterState, IsKnownBy, IsAt, Leads, Goes, Standpoint, Stays, StepsOn, HasFaults, IsReadFault, IsReadFaultEnd, IsReadFaultState, end_answer, fields_told, heading_at, moves_given, steps_given, steps_to_come}
+use Rattle.importer.specs.declared.input.Phase.{Phase}
+use Rattle.importer.specs.declared.input.Phase.TheVariants as phase
+use Rattle.importer.specs.Inputs.{ReadStays, row_of, standing_of}
+use Rattle.importer.specs.Logs.{CarriesBy, carried_point}
 use Rattle.importer.specs.Ending.{ahead, end_of_log}
 use Rattle.importer.specs.Steps.{carried_answers}
 
@@ -255,6 +261,68 @@ log_end old new before now e follows =
     (carried_answers (fields_told (heading_told old.state))) (carried_answers (fields_told (heading_told old.state))) (ahead [])
     (λ more stop. refl) (reader_end old.state old.held old.taken old.kept new before now e follows)
 
+-- ---- a reader that goes on by itself
+
+has_open : (before : Option Heading) (st : State) (x : LogStep) → StepHas before (heading_told st) x → is_open st ≡ true
+has_open before (Reads told n) x has = refl
+has_open before (Last told) x has = refl
+has_open before (EndedState e) (Head heading) has = cc
+has_open None (EndedState e) (Line row) has = absurd has.0
+has_open (Some h) (EndedState e) (Line row) has = let no = has.1 in cc
+
+log_row : (old new : Reading) (before now : Option (List ℕ)) (row : List Cell) → Follows old.state old new before now (Ok (Line row))
+    → StepHas (heading_told old.state) (heading_told new.state) (Line row)
+    → StepsOn (Log old) (Log new) before now (Line (carried (fields_told (heading_told old.state)) row) ∷ [])
+log_row old new before now row follows has =
+    goes_seen (Log old) (Log new) (to_come old) (to_come new) (first (Line row)) before now
+    (carried_answers (fields_told (heading_told old.state))) (carried_answers (fields_told (heading_told new.state)))
+    (ahead (Line (carried (fields_told (heading_told old.state)) row) ∷ []))
+    (λ more stop. line_seen (heading_told old.state) (heading_told new.state) row (to_come new more stop) has.1)
+    (reader_step old.state old.held old.taken old.kept new before now (Line row) (has_open (heading_told old.state) new.state (Line row) has) follows)
+
+pub moved_on : (old new : reader.Standing) (before now : Option (List ℕ)) (m : Moved) → Follows old.at.state old.at new.at before now (Ok (step_at new m))
+    → StepHas (heading_told old.at.state) (heading_told new.at.state) (step_at new m) → StepsOn (Log old.at) (Log new.at) before now (step_at (carried_point new) m ∷ [])
+moved_on old new before now moved.Head follows has = log_head old.at new.at before now (heading_or_none (heading_told new.at.state)) follows has
+moved_on old new before now moved.Line follows has =
+    subst (λ (h : Option Heading). StepsOn (Log old.at) (Log new.at) before now (Line (carried (fields_told h) new.row) ∷ [])) (sym has.1)
+    (log_row old.at new.at before now new.row follows has)
+
+has_cells : (before : Option Heading) (row row_now : List Cell) → length row_now ≡ length row → IsSomeAnd before (λ heading. length heading.fields ≡ length row)
+    → IsSomeAnd before (λ heading. length heading.fields ≡ length row_now)
+has_cells None row row_now same has = has
+has_cells (Some h) row row_now same has = has ∙ sym same
+
+pub has_carried : (before : Option Heading) (new : reader.Standing) (m : Moved) → StepHas before (heading_told new.at.state) (step_at new m)
+    → StepHas before (heading_told new.at.state) (step_at (carried_point new) m)
+has_carried before new moved.Head has = has
+has_carried before new moved.Line has =
+    let fields = fields_told (heading_told new.at.state) in
+    (has_cells before new.row (carried fields new.row) (carried_count (row_transport fields new.row) fields new.row) has.0, has.1)
+
+pub carries_on : (place : Option ℕ) (before : Option Heading) (new : reader.Standing) → CarriesBy before place → StepHas before (heading_told new.at.state) (step_at new moved.Line)
+    → CarriesBy (heading_told new.at.state) place
+carries_on place before new by has = subst (λ (h : Option Heading). CarriesBy h place) (sym has.1) by
+
+-- the same of a reader seen from outside
+pub moved_at : (old i new : reader.Standing) (s m : Moved) (before now : Option (List ℕ)) → carried_point i ≡ old → s ≡ m → Follows i.at.state i.at new.at before now (Ok (step_at new s))
+    → StepHas (heading_told i.at.state) (heading_told new.at.state) (step_at new s) → StepsOn (Log old.at) (Log new.at) before now (step_at (carried_point new) m ∷ [])
+moved_at old i new s m before now seen is follows has =
+    subst (λ (x : Moved). StepsOn (Log old.at) (Log new.at) before now (step_at (carried_point new) x ∷ [])) is
+    (subst (λ (r : reader.Standing). StepsOn (Log r.at) (Log new.at) before now (step_at (carried_point new) s ∷ [])) seen (moved_on i new before now s follows has))
+
+pub has_at : (old i new : reader.Standing) (s m : Moved) → carried_point i ≡ old → s ≡ m → StepHas (heading_told i.at.state) (heading_told new.at.state) (step_at new s)
+    → StepHas (heading_told old.at.state) (heading_told new.at.state) (step_at (carried_point new) m)
+has_at old i new s m seen is has =
+    subst (λ (x : Moved). StepHas (heading_told old.at.state) (heading_told new.at.state) (step_at (carried_point new) x)) is
+    (subst (λ (r : reader.Standing). StepHas (heading_told r.at.state) (heading_told new.at.state) (step_at (carried_point new) s)) seen (has_carried (heading_told i.at.state) new s has))
+
+pub point_stays : (old i new : reader.Standing) → carried_point i ≡ old → new ≡ record { at = i.at; row = [] } → carried_point new ≡ record { at = old.at; row = [] }
+point_stays old i new seen stays =
+    let none : carried (fields_told (heading_told i.at.state)) [] ≡ [] = carried_none (fields_told (heading_told i.at.state)) in
+    let at_row : List Cell → reader.Standing = λ (xs : List Cell). record { at = i.at; row = xs } in
+    let at_place : Reading → reader.Standing = λ (r : Reading). record { at = r; row = [] } in
+    ap carried_point stays ∙ ap at_row none ∙ ap (λ (s : reader.Standing). at_place s.at) seen
+
 -- ---- faults
 
 counts_step : (st : State) (x : LogStep) (before now : ℕ) → CountsOf st (Ok x) before now → now ≡ before
@@ -272,6 +340,13 @@ pub faults_step : (old new : Reading) (x : LogStep) (before now : ℕ) → StepF
 faults_step old new x before now fits counts = record {
   failed = λ is other. absurd (no_fault_open new.state (step_open (heading_told old.state) new.state x fits) is);
   kept = λ other. counts_step old.state x before now counts;
+}
+
+pub faults_moved : (old new : reader.Standing) (m : Moved) (before now : ℕ) → StepHas (heading_told old.at.state) (heading_told new.at.state) (step_at new m)
+    → CountsOf old.at.state (Ok (step_at new m)) before now → HasFaults (Log old.at) (Log new.at) before now
+faults_moved old new m before now has counts = record {
+  failed = λ is other. absurd (no_fault_open new.at.state (has_open (heading_told old.at.state) new.at.state (step_at new m) has) is);
+  kept = λ other. counts_step old.at.state (step_at new m) before now counts;
 }
 
 pub faults_lost : (old new : Reading) (x : LogStep) (before now : ℕ) → CountsOf old.state (Ok x) before now → HasFaults (Log old) (Ended (Some import.Memory)) before now
@@ -362,6 +437,33 @@ lost_at old i new before now s seen follows fits =
     subst (λ (r : Reading). StepsOn (Log r) (Ended (Some import.Memory)) before now []) seen
     (goes_lost (Log i) (Log new) (to_come i) (to_come new) (first (step_of s)) (steps_to_come (Log i)) (steps_to_come (Ended (Some import.Memory))) (ahead []) before now
     (reader_step i.state i.held i.taken i.kept new before now (step_of s) (step_open (heading_told i.state) new.state (step_of s) fits) follows))
+
+abbrev point : {S : Type 0} → Standing → List Cell → S → Standpoint S
+point at row source = record { at = at; row = row; source = source }
+
+reads_same : {X : Type 0} (a b : Option ImportEnd) → ◌≡◌ {A = Result X (Option ImportEnd)} (Err a) (Err b) → a ≡ b
+reads_same a b same = cc
+
+-- an end that was met stays
+pub end_stays : {S X : Type 0} (old new : Standpoint S) (p : Phase) (from : S) (why : Option ImportEnd) (answer : Result (Option X) ImportEnd) → point (standing_of p) (row_of p) from ≡ new
+    → ReadStays {X = X} old new (Err why) → answer ≡ end_answer why → Stays old.at old (point (Ended why) [] from) answer
+end_stays {S = S} {X = X} old new p from why answer seen stays is = λ end at.
+    let again = stays end at in
+    let same : why ≡ end = reads_same {X = X} why end again.0 in
+    let source : from ≡ old.source = ap (λ (o : Standpoint S). o.source) (seen ∙ again.1) in (
+      is ∙ ap (end_answer {X = X}) same,
+      ap (λ (e : Option ImportEnd). point (Ended e) [] from) same ∙ ap (λ (s : Standing). point s [] from) (sym at)
+          ∙ ap (λ (xs : List Cell). point old.at xs from) (sym again.2) ∙ ap (λ (x : S). point old.at old.row x) source,
+    )
+
+-- where an end is answered nothing was given
+pub end_steps : (why : Option ImportEnd) (answer : Result (Option Step) ImportEnd) → answer ≡ end_answer why → [] ≡ steps_given answer
+end_steps None answer is = ap steps_given (sym is)
+end_steps (Some end) answer is = ap steps_given (sym is)
+
+pub end_moves : (at : Standing) (row : List Cell) (why : Option ImportEnd) (answer : Result (Option Moved) ImportEnd) → answer ≡ end_answer why → [] ≡ moves_given at row answer
+end_moves at row None answer is = ap (moves_given at row) (sym is)
+end_moves at row (Some end) answer is = ap (moves_given at row) (sym is)
 
 pub stay_at : (at : Standing) (end : Option ImportEnd) (left left_now : Option (List ℕ)) → at ≡ Ended end → left_now ≡ left → StepsOn at (Ended end) left left_now []
 stay_at at end left left_now is same =

@@ -15,10 +15,12 @@ use Rattle.zeek_log.specs.Steps.{Steps, steps_of, taken_steps}
 use Rattle.zeek_log.specs.Table.{LogStep, Head, Line}
 use Rattle.importer.specs.declared.ends.ImportEnd.{ImportEnd}
 use Rattle.importer.specs.declared.ends.ImportEnd.TheVariants.{Fault, ReadFault, TooLong, Memory}
-use Rattle.importer.specs.Coming.{Anything, BatchesOn, Ended, Follow, Importing, IsAfter, IsAfterEnd, IsKnownBy, IsLost, MayFollow, Nothing, Standing, StepsOn, batches_to_come, fresh, steps_to_come}
+use Rattle.zeek_log.specs.Reader.{State}
+use Rattle.zeek_log.specs.Reader.{Reads as StateReads, Last as StateLast, Ended as StateEnded}
+use Rattle.importer.specs.Coming.{Anything, BatchesOn, Ended, Follow, Importing, IsAfter, IsAfterEnd, IsAfterState, IsKnownBy, IsLost, IsLostState, Log, MayFollow, Nothing, Standing, StepsOn, batches_to_come, fresh, steps_to_come}
 use Rattle.importer.specs.Cutting.{Bounds, Part, batch_of, bounds_of, cut, cut_answers, cut_by, is_full, last_piece, part_batches, parts_of, pieces_since, rows_first, steps_behind}
 use Rattle.importer.specs.Ending.{Answers, ahead, only_end}
-use Rattle.importer.specs.Laws.{AreCut, IsPiece, is_read_fault, rows_in, starting}
+use Rattle.importer.specs.Laws.{AreCut, ComesFirst, IsPiece, is_failed, is_read_fault, rows_in, starting}
 use Rattle.importer.specs.Steps.{carried_answers, input_steps, input_steps_of_source}
 use Rattle.importer.proofs.CutLemmas.{nothing_comes}
 use Rattle.importer.proofs.GoingLemmas.{goes_join}
@@ -183,16 +185,16 @@ taken_is bytes took rest split =
 at_bound : (bytes took : List ℕ) (b : Bool) → nat_le most_bytes (length took) ≡ b → b ≡ true → taken_steps bytes took false ≡ steps_of took AtBound
 at_bound bytes took b is at = rw (is ∙ at) refl
 
-below_bound : (bytes took : List ℕ) (b : Bool) → nat_le most_bytes (length took) ≡ b → b ≡ false → taken_steps bytes took false ≡ steps_of bytes AtEnd
+pub below_bound : (bytes took : List ℕ) (b : Bool) → nat_le most_bytes (length took) ≡ b → b ≡ false → taken_steps bytes took false ≡ steps_of bytes AtEnd
 below_bound bytes took b is off = rw (is ∙ off) refl
 
-below_most : (n : ℕ) → n < most_bytes → nat_le most_bytes n ≡ false
+pub below_most : (n : ℕ) → n < most_bytes → nat_le most_bytes n ≡ false
 below_most n few = grind (arith, nat_tests, few)
 
 most_is : (n : ℕ) → n ≡ most_bytes → nat_le most_bytes n ≡ true
 most_is n full = grind (arith, nat_tests, full)
 
-abbrev carries : Steps → Answers LogStep
+abbrev pub carries : Steps → Answers LogStep
 carries steps = carried_answers [] steps
 
 -- the steps of the source are those of what was taken and may follow
@@ -203,31 +205,23 @@ failed_so : (bytes left took : List ℕ) → bytes ≡ took ++ left → FollowsS
 failed_so bytes left took split =
     ([], (Failed, ((refl, refl), ap (λ (t : List ℕ). carries (steps_of t Failed)) (taken_is bytes took left split ∙ sym (append-nil took)))))
 
+-- no more was taken, since so much was
+pub bound_is : (bytes left took : List ℕ) → bytes ≡ took ++ left → nat_le most_bytes (length took) ≡ true → input_steps_of_source bytes left false ≡ input_steps took AtBound
+bound_is bytes left took split full =
+    ap (λ (t : List ℕ). carries (taken_steps bytes t false)) (taken_is bytes took left split) ∙ ap carries (at_bound bytes took true full refl)
+
+-- what is left may follow
+pub there_is : (bytes left took : List ℕ) → bytes ≡ took ++ left → nat_le most_bytes (length took) ≡ false → input_steps_of_source bytes left false ≡ input_steps (took ++ left) AtEnd
+there_is bytes left took split few =
+    ap (λ (t : List ℕ). carries (taken_steps bytes t false)) (taken_is bytes took left split) ∙ ap carries (below_bound bytes took false few refl)
+    ∙ ap (λ (t : List ℕ). carries (steps_of t AtEnd)) split
+
 bound_so : (bytes left took : List ℕ) (follow : Follow) → bytes ≡ took ++ left → nat_le most_bytes (length took) ≡ true → MayFollow follow [] AtBound → FollowsSo bytes left took follow false
-bound_so bytes left took follow split full may = (
-  [],
-  (
-    AtBound,
-    (
-      may,
-      ap (λ (t : List ℕ). carries (taken_steps bytes t false)) (taken_is bytes took left split) ∙ ap carries (at_bound bytes took true full refl)
-          ∙ ap (λ (t : List ℕ). carries (steps_of t AtBound)) (sym (append-nil took)),
-    ),
-  ),
-)
+bound_so bytes left took follow split full may =
+    ([], (AtBound, (may, bound_is bytes left took split full ∙ ap (λ (t : List ℕ). carries (steps_of t AtBound)) (sym (append-nil took)))))
 
 there_so : (bytes left took : List ℕ) (follow : Follow) → bytes ≡ took ++ left → nat_le most_bytes (length took) ≡ false → MayFollow follow left AtEnd → FollowsSo bytes left took follow false
-there_so bytes left took follow split few may = (
-  left,
-  (
-    AtEnd,
-    (
-      may,
-      ap (λ (t : List ℕ). carries (taken_steps bytes t false)) (taken_is bytes took left split) ∙ ap carries (below_bound bytes took false few refl)
-          ∙ ap (λ (t : List ℕ). carries (steps_of t AtEnd)) split,
-    ),
-  ),
-)
+there_so bytes left took follow split few may = (left, (AtEnd, (may, there_is bytes left took split few)))
 
 anything_so : (bytes left took : List ℕ) (b : Bool) → bytes ≡ took ++ left → nat_le most_bytes (length took) ≡ b → FollowsSo bytes left took Anything false
 anything_so bytes left took true split is = bound_so bytes left took Anything split is tt
@@ -284,3 +278,26 @@ batches_by number rows now bytes left end given standing is ended goes there =
 pub whole_batches : (number rows : ℕ) (now : Importing) (bytes left : List ℕ) (end : Option ImportEnd) (given : List Content) → BatchesOn (starting number rows) now (Some bytes) (Some left) given
     → now.standing ≡ Ended end → (IsLost (Ended end) → ⊥) → cut_answers number rows (input_steps_of_source bytes left (is_read_fault end)) ≡ record { given = given; end = end }
 whole_batches number rows now bytes left end given goes ended there = batches_by number rows now bytes left end given (Ended end) ended refl goes there
+
+-- ---- from the start to where more may come
+
+state_so : (bytes left took : List ℕ) (follow : Follow) (state : State) → bytes ≡ took ++ left → IsAfterState state follow → IsKnownBy follow (Some left) (length took) → (IsLostState state → ⊥)
+    → FollowsSo bytes left took follow false
+state_so bytes left took follow (StateReads told n) split after known there =
+    subst (λ (f : Follow). FollowsSo bytes left took f false) (sym after) (anything_so bytes left took (nat_le most_bytes (length took)) split refl)
+state_so bytes left took follow (StateLast told) split after known there =
+    subst (λ (f : Follow). FollowsSo bytes left took f false) (sym after) (at_end_so bytes left took split (subst (λ (f : Follow). IsKnownBy f (Some left) (length took)) after known))
+state_so bytes left took follow (StateEnded end) split after known there = absurd (there tt)
+
+standing_so : (bytes left took : List ℕ) (follow : Follow) (standing : Standing) → bytes ≡ took ++ left → IsAfter standing follow → IsKnownBy follow (Some left) (length took) → (IsLost standing → ⊥)
+    → FollowsSo bytes left took follow (is_failed standing)
+standing_so bytes left took follow (Log r) split after known there = state_so bytes left took follow r.state split after known there
+standing_so bytes left took follow (Ended end) split after known there = end_so bytes left took follow end split after known there
+
+pub first_batches : (number rows : ℕ) (now : Importing) (bytes left : List ℕ) (given : List Content) → BatchesOn (starting number rows) now (Some bytes) (Some left) given → (IsLost now.standing → ⊥)
+    → ComesFirst given (cut_answers number rows (input_steps_of_source bytes left (is_failed now.standing)))
+first_batches number rows now bytes left given goes there =
+    let leads = goes Anything 0 (record { after = refl; known = tt; count = refl }) in
+    let known : IsKnownBy leads.follow (Some left) (length leads.took) = subst (λ (n : ℕ). IsKnownBy leads.follow (Some left) n) (omega arith) leads.at.known in
+    let so = standing_so bytes left leads.took leads.follow now.standing (some_is bytes leads.took left leads.left) leads.at.after known there in
+    (batches_to_come now so.0 so.1.0, ap (cut_answers number rows) so.1.1.1 ∙ leads.is so.0 so.1.0 so.1.1.0)

@@ -1,4 +1,5 @@
-mod CarryLemmas
+pub mod CarryLemmas
+pub mod CurrentLemmas
 pub mod CutLemmas
 pub mod GoingLemmas
 pub mod HeadedLemmas

@@ -21,7 +21,7 @@ use Rattle.importer.specs.declared.ends.ImportEnd.{ImportEnd}
 use Rattle.importer.specs.declared.ends.ImportEnd.TheVariants.{Fault, ReadFault, TooLong, Memory}
 use Rattle.importer.specs.declared.import.Turn.{Turn}
 use Rattle.importer.specs.declared.import.Turn.TheVariants as turn
-use Rattle.importer.specs.Coming.{BatchesOn, EndsAt, Ended, Goes, HasFaults, Importing, IsLastLayout, IsLost, IsReadFault, Sourced, Standing, StepsOn, Stays, batches_behind, batches_to_come, end_answer, heading_at, steps_given, steps_to_come}
+use Rattle.importer.specs.Coming.{BatchesOn, EndsAt, Ended, Goes, HasFaults, Importing, IsLastLayout, IsLost, IsReadFault, Sourced, Standing, Standpoint, StepsOn, Stays, batches_behind, batches_to_come, end_answer, heading_at, steps_given, steps_to_come}
 use Rattle.importer.specs.Cutting.{batch_of, bounds_of, cell_bytes_of, cut_answers, is_full, most_cell_bytes, steps_behind}
 use Rattle.importer.specs.Ending.{Answers, ahead}
 use Rattle.importer.specs.Turns.{AreHeld, AreSince, EndTurn, HeadTurn, HeldFit, IsMemory, LineTurn, RowFits, TurnGoes, TurnGoing, TurnHolds}
@@ -247,7 +247,7 @@ same_answer (Some x) None same = cc
 same_answer (Some x) (Some y) same = cc
 
 -- an end stays: `why` is answered again, and the import is the same
-pub end_turn_stays : {S : Type 0} (old : Sourced Importing S) (n rows : ℕ) (heading heading_now : Option Heading) (input input_now : Sourced Standing S)
+pub end_turn_stays : {S : Type 0} (old : Sourced Importing S) (n rows : ℕ) (heading heading_now : Option Heading) (input input_now : Standpoint S)
     (held : Rows) (why : Option ImportEnd) (t : Turn) → whole (import_at n rows heading input.at) input.source ≡ old → Stays input.at input input_now (step_answer why)
     → EndTurn t why heading held → (held ≡ [] → heading_now ≡ heading)
     → (end : Option ImportEnd) → old.at.standing ≡ Ended end → held ≡ [] → (t ≡ turn.Ends end) × (whole (import_at n rows heading_now input_now.at) input_now.source ≡ old)

@@ -17,12 +17,12 @@ use Rattle.zeek_log.specs.Table.{Head, Line}
 use Rattle.importer.specs.declared.ends.ImportEnd.TheVariants.{Fault, ReadFault, TooLong, Memory}
 use Rattle.importer.specs.declared.ends.InputFault.TheVariants as input
 use Rattle.importer.specs.declared.ends.How.TheVariants as how
-use Rattle.importer.specs.Carrying.{carried, cell_transport, protocol_place, row_transport, transport_named}
+use Rattle.importer.specs.Carrying.{carried, carried_cell, carried_cells, cell_transport, is_port_kind, is_protocol_name, is_text_kind, protocol_place, row_transport, transport_named}
 use Rattle.importer.specs.Coming.{Anything, Ended, Follow, IsKnownBy, IsLost, IsReadFault, MayFollow, Nothing, StepsOn, fresh, steps_left, steps_to_come}
 use Rattle.importer.specs.Cutting.{Bounds, behind, bounds_of, cut_answers, cut_by}
 use Rattle.importer.specs.Ending.{end_of_log, how_ended, only_end}
 use Rattle.importer.specs.Laws.{is_read_fault, rows_in}
-use Rattle.importer.specs.Steps.{carried_steps}
+use Rattle.importer.specs.Steps.{carried_answers, carried_steps}
 
 -- Ends
 
@@ -45,6 +45,21 @@ field name k = record { name = name; kind = k }
 
 abbrev port : ℕ → Transport → Cell
 port number over = One (Port number over)
+
+kinds : map is_port_kind (kind.One elem.Port ∷ kind.SetOf elem.Port ∷ kind.One elem.Count ∷ []) ≡ (true ∷ false ∷ false ∷ [])
+kinds = refl
+
+text_kinds : map is_text_kind (kind.One elem.Text ∷ kind.One elem.Name ∷ kind.VecOf elem.Text ∷ []) ≡ (true ∷ true ∷ false ∷ [])
+text_kinds = refl
+
+protocols : map is_protocol_name (codes "proto" ∷ codes "protocol" ∷ []) ≡ (true ∷ false ∷ [])
+protocols = refl
+
+one_cell : map (carried_cell Udp) (port 7 Unknown ∷ port 7 Tcp ∷ One (Count 7) ∷ []) ≡ (port 7 Udp ∷ port 7 Tcp ∷ One (Count 7) ∷ [])
+one_cell = refl
+
+port_columns : carried_cells Udp (field (codes "a") (kind.One elem.Count) ∷ field (codes "b") (kind.One elem.Port) ∷ []) (port 7 Unknown ∷ port 8 Unknown ∷ []) ≡ (port 7 Unknown ∷ port 8 Udp ∷ [])
+port_columns = refl
 
 -- two ports, one of which has a transport, a set of ports, and the protocol
 abbrev conn : Kind → List Field
@@ -88,6 +103,9 @@ udp_row over = port 7 over ∷ One (Text (codes "udp")) ∷ []
 
 each_by_its_head : carried_steps [] (Head with_protocol ∷ Line (udp_row Unknown) ∷ Head without ∷ Line (udp_row Unknown) ∷ []) ≡ (Head with_protocol ∷ Line (udp_row Udp) ∷ Head without ∷ Line (udp_row Unknown) ∷ [])
 each_by_its_head = refl
+
+answers : carried_answers without.fields (record { given = Line (udp_row Unknown) ∷ []; end = log.TooLong }) ≡ record { given = Line (udp_row Unknown) ∷ []; end = Some TooLong }
+answers = refl
 
 at_the_start : steps_to_come fresh (codes "") AtEnd ≡ only_end None
 at_the_start = refl

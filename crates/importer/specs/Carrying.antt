@@ -86,3 +86,16 @@ cell_or_none_transport (Some cell) = cell_transport cell
 abbrev pub transport_at : Option ℕ → List Cell → Transport
 transport_at None row = Unknown
 transport_at (Some at) row = cell_or_none_transport (slice_get row at)
+
+-- Where one cell is looked at: whether the column at a place is one of ports.
+
+abbrev pub port_or_none : Option Field → Bool
+port_or_none None = false
+port_or_none (Some field) = is_port_kind field.kind
+
+abbrev pub is_port_at : List Field → ℕ → Bool
+is_port_at fields at = port_or_none (slice_get fields at)
+
+-- the cell of a column, in a port column with this transport
+abbrev pub carried_at : Transport → List Field → ℕ → Cell → Cell
+carried_at over fields at cell = if is_port_at fields at then carried_cell over cell else cell

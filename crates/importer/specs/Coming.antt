@@ -7,12 +7,15 @@ use Rattle.vast_value.specs.Headings.{Field, Heading}
 use Rattle.source_block.specs.declared.stop.Stop.{Stop}
 use Rattle.source_block.specs.declared.stop.Stop.TheVariants.{AtEnd, Failed, AtBound}
 use Rattle.source_block.specs.Taking.{Stops}
+use Rattle.zeek_log.specs.Finding.{HoldsRow}
 use Rattle.zeek_log.specs.Going.{lines_left}
 use Rattle.zeek_log.specs.Heads.{opening}
 use Rattle.zeek_log.specs.Reader.{Reading, State, heading_told, heading_or_none, to_come}
 use Rattle.zeek_log.specs.Reader.{Reads as StateReads, Last as StateLast, Ended as StateEnded}
 use Rattle.zeek_log.specs.Steps.{step_of}
-use Rattle.zeek_log.specs.Table.{LogStep}
+use Rattle.zeek_log.specs.Table.{LogStep, Head, Line}
+use Rattle.zeek_log.specs.declared.step.Moved.{Moved}
+use Rattle.zeek_log.specs.declared.step.Moved.TheVariants as moved
 use Rattle.zeek_log.specs.declared.step.Step.{Step}
 use Rattle.event_batch.specs.declared.batch.Batch.{Batch}
 use Rattle.event_batch.specs.Contents.{Content, content_of}
@@ -60,6 +63,17 @@ batches_behind import held bytes stop =
 -- the batches still to come between two calls
 abbrev pub batches_to_come : Importing → List ℕ → Stop → Answers Content
 batches_to_come import bytes stop = batches_behind import [] bytes stop
+
+-- where an input stands, and the cells of the row at which it stands, none where it stands at none
+pub record Placed : Type 0 where
+  pub at : Standing
+  pub row : List Cell
+
+-- Where an input stands, the cells of the row at which it stands, none where it stands at none, and its source.
+pub record Standpoint (S : Type 0) : Type 0 where
+  pub at : Standing
+  pub row : List Cell
+  pub source : S
 
 -- a value, and the source that it stands on
 pub record Sourced (V S : Type 0) : Type 0 where
@@ -141,19 +155,41 @@ abbrev pub batches_given : {E : Type 0} → Result (Option Batch) E → List Con
 batches_given (Ok (Some batch)) = content_of batch ∷ []
 batches_given _ = []
 
+-- the step at which an input stands that went on to a head or to a line
+abbrev pub step_at : Standing → List Cell → Moved → LogStep
+step_at at row moved.Head = Head (heading_or_none (heading_at at))
+step_at at row moved.Line = Line row
+
+-- what a call gave that went on
+abbrev pub moves_given : {E : Type 0} → Standing → List Cell → Result (Option Moved) E → List LogStep
+moves_given at row (Ok (Some moved)) = step_at at row moved ∷ []
+moves_given at row _ = []
+
+-- a whole data line is among the bytes held
+abbrev pub HoldsLine : Standing → Type 0
+HoldsLine (Log r) = HoldsRow r.held
+HoldsLine (Ended end) = ⊥
+
 -- the answer where nothing but an end is to come
 abbrev pub end_answer : {X : Type 0} → Option ImportEnd → Result (Option X) ImportEnd
 end_answer None = Ok None
 end_answer (Some end) = Err end
 
--- want of memory is all that is to come
+abbrev pub IsLostEnd : Option ImportEnd → Type 0
+IsLostEnd None = ⊥
+IsLostEnd (Some Memory) = Unit {0}
+IsLostEnd (Some ReadFault) = ⊥
+IsLostEnd (Some TooLong) = ⊥
+IsLostEnd (Some (Fault fault)) = ⊥
+
+abbrev pub IsLostState : State → Type 0
+IsLostState (StateEnded end) = Unit {0}
+IsLostState state = ⊥
+
+-- want of memory is all that is to come, or a log's end was given and is not kept
 abbrev pub IsLost : Standing → Type 0
-IsLost (Log r) = ⊥
-IsLost (Ended None) = ⊥
-IsLost (Ended (Some Memory)) = Unit {0}
-IsLost (Ended (Some ReadFault)) = ⊥
-IsLost (Ended (Some TooLong)) = ⊥
-IsLost (Ended (Some (Fault fault))) = ⊥
+IsLost (Log r) = IsLostState r.state
+IsLost (Ended end) = IsLostEnd end
 
 -- where an end was answered nothing else is to come, and where memory was wanting nothing else was answered
 abbrev pub EndsAt : {X : Type 0} → Result (Option X) ImportEnd → Standing → Type 0

@@ -4,7 +4,8 @@ use Rattle.vast_value.specs.declared.cell.Cell.{Cell}
 use Rattle.zeek_log.specs.Table.{LogStep, Head, Line}
 use Rattle.importer.specs.declared.ends.ImportEnd.{ImportEnd}
 use Rattle.importer.specs.declared.ends.ImportEnd.TheVariants.{ReadFault}
-use Rattle.importer.specs.Coming.{Importing, fresh}
+use Rattle.importer.specs.Coming.{Ended, Importing, Log, Standing, fresh}
+use Rattle.importer.specs.Ending.{Answers, ahead}
 
 -- all rows of the steps, in order
 abbrev pub rows_in : List LogStep → List (List Cell)
@@ -31,3 +32,12 @@ starting number rows = record { number = number; rows = rows; heading = None; st
 abbrev pub is_read_fault : Option ImportEnd → Bool
 is_read_fault (Some ReadFault) = true
 is_read_fault _ = false
+
+-- a failed read is the end
+abbrev pub is_failed : Standing → Bool
+is_failed (Log r) = false
+is_failed (Ended end) = is_read_fault end
+
+-- these are the first of all that is given
+abbrev pub ComesFirst : {X : Type 0} → List X → Answers X → Type 0
+ComesFirst {X} given all = (more : Answers X) × (all ≡ ahead given more)

@@ -36,7 +36,7 @@ fn has_ports(columns: &[Column]) -> bool
     columns.iter().any(|column| is_port_kind(column.kind))
 }
 
-fn is_port_kind(kind: Kind) -> bool
+pub(crate) fn is_port_kind(kind: Kind) -> bool
     ensures { result ≡ is_port_kind kind }
 {
     match kind {
@@ -95,7 +95,7 @@ fn transport_at(protocol: Option<usize>, row: &[Cell]) -> Transport
     }
 }
 
-fn cell_transport(cell: &Cell) -> Transport
+pub(crate) fn cell_transport(cell: &Cell) -> Transport
     ensures { result ≡ cell_transport cell.now }
 {
     match cell {
@@ -131,7 +131,7 @@ fn carry_over(alloc: Global, over: Transport, cells: &[Cell]) -> Result<Row, All
     Ok(row)
 }
 
-fn carry_cell(alloc: Global, over: Transport, cell: &Cell) -> Result<Cell, AllocError>
+pub(crate) fn carry_cell(alloc: Global, over: Transport, cell: &Cell) -> Result<Cell, AllocError>
     ensures { IfOk result (λ new. new ≡ carried_cell over cell.now) }
 {
     match cell {

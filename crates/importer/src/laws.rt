@@ -10,7 +10,7 @@ ghost use Rattle.importer.specs.declared.ends.ImportEnd.{ImportEnd};
 ghost use Rattle.importer.specs.Carrying.{carried};
 ghost use Rattle.importer.specs.Coming.{BatchesOn, Ended, Importing, IsLost, Standing, StepsOn, fresh};
 ghost use Rattle.importer.specs.Cutting.{Bounds, cut, cut_answers, cut_by, pieces_since};
-ghost use Rattle.importer.specs.Laws.{AreCut, is_read_fault, rows_in, starting};
+ghost use Rattle.importer.specs.Laws.{AreCut, ComesFirst, is_failed, is_read_fault, rows_in, starting};
 ghost use Rattle.importer.specs.Steps.{input_steps, input_steps_of_source};
 
 /// To carry a carried row again changes nothing, and it fits what the row fits.
@@ -51,4 +51,10 @@ pub fn answers_join()
 pub fn all_is_given()
     ensures steps { (bytes left : List ℕ) (end : Option ImportEnd) (given : List LogStep) → StepsOn fresh (Ended end) (Some bytes) (Some left) given → ¬ IsLost (Ended end) → input_steps_of_source bytes left (is_read_fault end) ≡ record { given = given; end = end } }
     ensures batches { (number rows : ℕ) (now : Importing) (bytes left : List ℕ) (end : Option ImportEnd) (given : List Content) → BatchesOn (starting number rows) now (Some bytes) (Some left) given → now.standing ≡ Ended end → ¬ IsLost (Ended end) → cut_answers number rows (input_steps_of_source bytes left (is_read_fault end)) ≡ record { given = given; end = end } }
+{}
+
+/// What an import gave from its start, where memory was not wanting, are the first batches of all that the definition gives
+/// for the source's bytes and what is left of them.
+pub fn what_is_given_comes_first()
+    ensures { (number rows : ℕ) (now : Importing) (bytes left : List ℕ) (given : List Content) → BatchesOn (starting number rows) now (Some bytes) (Some left) given → ¬ IsLost now.standing → ComesFirst given (cut_answers number rows (input_steps_of_source bytes left (is_failed now.standing))) }
 {}

@@ -5,8 +5,8 @@ use crate::{Import, ImportEnd, Input, InputFault};
 use std::alloc::{AllocError, Global};
 use std::test::Fail;
 use vast_io::{FileSource, MemSource};
-use vast_value::{Bytes, Cell, Transport, Value};
-use zeek_log::{Step, ZeekFault};
+use vast_value::{Bytes, Cell, RowView, Transport, Value};
+use zeek_log::{Moved, Step, ZeekFault};
 
 // Two heads of one layout. The rows of the first are three, and the last line has no newline.
 const LOG: &[u8] = b"#path\td\n#fields\tn\n#types\tcount\n1\n2\n3\n#types\tcount\n4";
@@ -58,6 +58,33 @@ fn batches_close_at_their_rows_before_a_head_and_at_the_end(rt: HostRuntime) -> 
     ] {
         let from = source(rt.alloc(), LOG, 5, Vec::new(rt.alloc()))?;
         let (told, end) = import_all(rt.alloc(), from, rows)?;
+        assert_eq!(rt; told.as_slice(), sizes);
+        assert_eq!(rt; end, None);
+    }
+    Ok(())
+}
+
+/// A log of six rows, each one text of so many bytes.
+fn log_of_texts(alloc: Global, length: usize) -> Result<Bytes, AllocError> {
+    let text = vec![in alloc; b'x'; length]?;
+    let mut log = Bytes::copy(alloc, b"#path\td\n#fields\tt\n#types\tstring\n")?;
+    for _ in 0..6u32 {
+        log.append(&text)?;
+        log.push(b'\n')?;
+    }
+    Ok(log)
+}
+
+// A text takes five bytes more in a batch, so four of the longer ones are 4,194,304 bytes, and of the shorter four less.
+#[test]
+fn a_batch_closes_at_its_cell_bytes(rt: HostRuntime) -> Result<(), Fail> {
+    for (length, sizes) in [
+        (1_048_571usize, [4u64, 2].as_slice()),
+        (1_048_570, [5, 1].as_slice()),
+    ] {
+        let log = log_of_texts(rt.alloc(), length)?;
+        let from = MemSource::new(log, 1_000_000, Vec::new(rt.alloc()));
+        let (told, end) = import_all(rt.alloc(), from, 4096)?;
         assert_eq!(rt; told.as_slice(), sizes);
         assert_eq!(rt; end, None);
     }
@@ -123,6 +150,21 @@ fn ports_get_the_transport_of_their_protocol(rt: HostRuntime) -> Result<(), Fail
         Transport::Tcp,
     ];
     assert_eq!(rt; all.as_slice(), want.as_slice());
+    let _ = input.into_source();
+    Ok(())
+}
+
+#[test]
+fn a_row_is_written_carried_where_the_input_stands(rt: HostRuntime) -> Result<(), Fail> {
+    let from = source(rt.alloc(), CONN, 1000, Vec::new(rt.alloc()))?;
+    let mut input = Input::start(rt.alloc(), from);
+    let mut text = Bytes::new(rt.alloc());
+    for _ in 0..2u32 {
+        if let Ok(Some(Moved::Line)) = input.advance() {
+            input.place().write_row(&mut text)?;
+        }
+    }
+    assert_eq!(rt; text.as_slice(), b"\t7/udp\t8/tcp\tudp".as_slice());
     let _ = input.into_source();
     Ok(())
 }

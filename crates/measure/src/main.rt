@@ -14,7 +14,6 @@ use bitmaps::Spent;
 use bits_law::Order;
 use indexes::{Plan, Work};
 use pages::{Asking, Stage};
-use parts::Question;
 use runs_bitmap::RunsBitmap;
 use std::alloc::Global;
 use std::process::ExitCode;
@@ -23,7 +22,7 @@ use vast_io::{DiskOpener, Opener};
 use word_bitmap::WordBitmap;
 
 const USAGE: &str =
-    "measure turns THREADS TURNS, decode PACKETS, bitmaps BITS ONE_IN, batches ROWS ENCODES UNPACKS, indexes WORK RELATION COLUMN END ROWS PART TIMES, parts WORK GROUPS TIMES, store BATCHES QUERIES, pages FILE STAGE CACHE TIMES QUERY";
+    "measure turns THREADS TURNS, decode PACKETS, bitmaps BITS ONE_IN, batches ROWS ENCODES UNPACKS, indexes WORK RELATION COLUMN END ROWS PART TIMES, parts WORK GROUPS [TIMES QUERY], store BATCHES QUERIES, pages FILE STAGE CACHE TIMES QUERY";
 
 fn main(rt: HostRuntime) -> anyhow::Result<ExitCode> {
     let mut words = env::args(&rt)?;
@@ -91,30 +90,40 @@ fn main(rt: HostRuntime) -> anyhow::Result<ExitCode> {
 
 // The work on parts that the words name, done, with its number told; or false where they name none.
 fn measured_parts(rt: &HostRuntime, words: &mut env::Args<Global>) -> anyhow::Result<bool> {
-    let work = words.next().and_then(|word| work_on_parts(word.as_str()));
+    let word = words.next();
     let groups = words.next().and_then(|word| word.parse().ok());
     let times = words.next().and_then(|word| word.parse().ok());
-    let (Some(work), Some(groups), Some(times)) = (work, groups, times) else {
+    let query = words.next();
+    let (Some(word), Some(groups)) = (word, groups) else {
         return Ok(false);
     };
-    let rows = parts::measure(rt.alloc(), work, groups, times)?;
+    let query = query.as_ref().map(|word| word.as_str());
+    let Some(work) = work_on_parts(word.as_str(), times, query) else {
+        return Ok(false);
+    };
+    let Some(rows) = parts::measure(rt.alloc(), work, groups)? else {
+        return Ok(false);
+    };
     println!(rt; "rows {rows}")?;
     Ok(true)
 }
 
-// The work on parts that a word names.
-fn work_on_parts(word: &str) -> Option<parts::Work> {
-    Some(match word {
-        "make" => parts::Work::Make,
-        "build" => parts::Work::Build,
-        "merge" => parts::Work::Merge,
-        "subnet" => parts::Work::Ask(Question::Subnet),
-        "order" => parts::Work::Ask(Question::Order),
-        "port-of-five" => parts::Work::Ask(Question::PortOfFive),
-        "port-of-many" => parts::Work::Ask(Question::PortOfMany),
-        "rare-text" => parts::Work::Ask(Question::RareText),
-        _ => return None,
-    })
+// The work on parts that a word names; one that asks wants a query, and how often it is asked.
+fn work_on_parts<'a>(
+    word: &str,
+    times: Option<u64>,
+    query: Option<&'a str>,
+) -> Option<parts::Work<'a>> {
+    match word {
+        "make" => Some(parts::Work::Make),
+        "build" => Some(parts::Work::Build),
+        "merge" => Some(parts::Work::Merge),
+        "ask" => Some(parts::Work::Ask {
+            query: query?,
+            times: times?,
+        }),
+        _ => None,
+    }
 }
 
 // The work on indexes that the words name, done, with a line for each column; or false where they name none.

@@ -1,5 +1,5 @@
-//! Made batches of connections, a part of each, groups of these merged, and questions to the merged parts.
-ghost use Rattle.std.specs.Prelude.{◌≤◌, ◌^◌, length, map, IfOk};
+//! Made batches of connections, a part of each, groups of these merged, and queries asked of the merged parts.
+ghost use Rattle.std.specs.Prelude.{map, IfOk};
 ghost use Rattle.std.specs.Arc.{arc_value};
 ghost use Rattle.event_history.specs.Pieces.{AreAdjacent};
 
@@ -7,12 +7,12 @@ use crate::indexes::{COLUMNS, Key, cell};
 use bits_law::Bits;
 use event_batch::{Batch, Rows};
 use partition::{Fragment, Part, Sealed};
-use query_meaning::{Literal, Pick, Rel, Test};
+use query_meaning::Expr;
+use query_parse::parse;
+use query_plan::candidates;
 use std::alloc::{AllocError, Global};
 use std::sync::Arc;
-use vast_value::{
-    Bytes, Cell, Cells, Column, Columns, Elem, Kind, Layout, Net, Row, Transport, Value,
-};
+use vast_value::{Bytes, Cell, Cells, Column, Columns, Elem, Kind, Layout, Row, Transport, Value};
 
 /// How many rows a batch has.
 const ROWS: u64 = 1024;
@@ -47,48 +47,32 @@ const NAMED: [(&str, Kind); COLUMNS] = [
     ("tunnel_parents", Kind::SetOf(Elem::Text)),
 ];
 
-/// What is asked of each merged part.
-#[derive(Clone, Copy, Debug, PartialEq, Eq)]
-pub enum Question {
-    /// Connections to a subnet of 1,024 addresses.
-    Subnet,
-    /// Connections of a number from some on.
-    Order,
-    /// Connections to one of five ports.
-    PortOfFive,
-    /// Connections from one of many ports.
-    PortOfMany,
-    /// The connection of an identity.
-    RareText,
-}
-
 /// What is done with the batches of groups.
-#[derive(Clone, Copy, Debug, PartialEq, Eq)]
-pub enum Work {
+#[derive(Clone, Copy)]
+pub enum Work<'a> {
     /// They are made.
     Make,
     /// A part is built of each, and kept.
     Build,
     /// The parts of each group are merged, and the merged ones kept.
     Merge,
-    /// Each merged part is asked.
-    Ask(Question),
+    /// Each merged part is asked a query, so many times.
+    Ask { query: &'a str, times: u64 },
 }
 
-/// Does the work with so many groups, and asks each merged part so many times. It gives how many rows were made, or in how
-/// many what was asked may hold.
-pub fn measure(alloc: Global, work: Work, groups: u64, times: u64) -> Result<u64, AllocError> {
+/// Does the work with so many groups. It gives how many rows were made, or in how many the query may hold; `None` where
+/// what is asked is no query.
+pub fn measure(alloc: Global, work: Work<'_>, groups: u64) -> Result<Option<u64>, AllocError> {
     match work {
-        Work::Make => made(alloc, groups),
-        Work::Build => built(alloc, groups),
-        Work::Merge => Ok(rows_of(&merged(alloc, groups)?)),
-        Work::Ask(question) => {
+        Work::Make => Ok(Some(made(alloc, groups)?)),
+        Work::Build => Ok(Some(built(alloc, groups)?)),
+        Work::Merge => Ok(Some(rows_of(&merged(alloc, groups)?))),
+        Work::Ask { query, times } => {
+            let Ok(expr) = parse(alloc, query) else {
+                return Ok(None);
+            };
             let parts = merged(alloc, groups)?;
-            let mut found = 0;
-            for _ in 0..times {
-                found = asked(alloc, &parts, question)?;
-            }
-            Ok(found)
+            Ok(Some(asked_times(alloc, &parts, &expr, times)?))
         }
     }
 }
@@ -156,51 +140,22 @@ fn rows_of(parts: &[Part]) -> u64 {
     rows
 }
 
-// In how many rows of the parts the answer may be.
-fn asked(alloc: Global, parts: &[Part], question: Question) -> Result<u64, AllocError> {
-    let test = test(alloc, question)?;
-    let mut found = 0u64;
-    for part in parts {
-        let pair = part.ask(alloc, &test)?;
-        found = found.wrapping_add(pair.maybe.count());
+// In how many rows of the parts a query may hold, as they tell when they are asked for the last of so many times.
+fn asked_times(alloc: Global, parts: &[Part], expr: &Expr, times: u64) -> Result<u64, AllocError> {
+    let mut found = 0;
+    for _time in 0..times {
+        found = asked(alloc, parts, expr)?;
     }
     Ok(found)
 }
 
-fn test(alloc: Global, question: Question) -> Result<Test, AllocError> {
-    match question {
-        Question::Subnet => {
-            let net = Net {
-                base: 0xffff_c0a8_0800,
-                bits: 118,
-            };
-            of(alloc, b"id.resp_h", Rel::Within, Value::Subnet(net))
-        }
-        Question::Order => of(alloc, b"orig_ip_bytes", Rel::Ge, Value::Count(4000)),
-        Question::PortOfFive => same(alloc, b"id.resp_p", Elem::Port, 5),
-        Question::PortOfMany => same(alloc, b"id.orig_p", Elem::Port, 3),
-        Question::RareText => same(alloc, b"uid", Elem::Text, 1),
+fn asked(alloc: Global, parts: &[Part], expr: &Expr) -> Result<u64, AllocError> {
+    let mut found = 0u64;
+    for part in parts {
+        let pair = candidates(alloc, expr, part)?;
+        found = found.wrapping_add(pair.maybe.count());
     }
-}
-
-// What the first row has in a column.
-fn same(alloc: Global, name: &[u8], elem: Elem, column: usize) -> Result<Test, AllocError>
-    requires { length name.now ≤ 2 ^ 24 }
-{
-    match single(alloc, elem, &cell(column, 0), 0)? {
-        Cell::One(value) => of(alloc, name, Rel::Eq, value),
-        _ => Err(AllocError),
-    }
-}
-
-fn of(alloc: Global, name: &[u8], rel: Rel, value: Value) -> Result<Test, AllocError>
-    requires { length name.now ≤ 2 ^ 24 }
-{
-    Ok(Test {
-        pick: Pick::Named(Bytes::copy(alloc, name)?),
-        rel,
-        literal: Literal::Of(value),
-    })
+    Ok(found)
 }
 
 fn batch(alloc: Global, number: u64) -> Result<Batch, AllocError> {

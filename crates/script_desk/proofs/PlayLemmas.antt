@@ -11,11 +11,17 @@ use Rattle.event_history.specs.Histories.{past}
 use Rattle.event_history.specs.Steps as s
 use Rattle.history_core.specs.declared.answers.Claim.{Claim}
 use Rattle.history_core.specs.declared.answers.Group.{Group}
-use Rattle.history_core.specs.Replies.{Makes, claim_given, group_given}
+use Rattle.event_batch.specs.Contents.{Spelled}
+use Rattle.history_core.specs.declared.answers.Accepted.{Accepted}
+use Rattle.history_core.specs.declared.answers.AcceptEnd.{AcceptEnd}
+use Rattle.history_core.specs.declared.answers.AcceptEnd.TheVariants as accept
+use Rattle.history_core.specs.Replies.{Makes, accept_reply, claim_given, group_given}
 use Rattle.history_core.specs.Shown.{Shown, entries_of, with_entries}
 use Rattle.script_desk.specs.declared.desk.Hold.{Hold}
+use Rattle.script_desk.specs.declared.desk.Refused.{Refused}
 use Rattle.script_desk.specs.Desks.{Desk, Played, Plays, claim_played, group_played, holds_claim, moved, play_claim, play_group, play_lose, play_parsed, play_query, play_seal, play_unclaim, replied, seal_played, step_at, with_groups, without_claim}
 use Rattle.script_desk.specs.Kept.{IsFirstOn, NoneOn, desk_of}
+use Rattle.script_desk.specs.Refusals.{IsBack}
 use Rattle.script_desk.specs.Texts.{refused_text, told}
 use Rattle.script_desk.proofs.ClaimLemmas.{first_held, first_removed, none_held, none_removed, numbers}
 
@@ -166,3 +172,17 @@ pub query_refused : (r : Result (Unit {0}) AllocError) (mode : Mode) (text : Lis
 query_refused r mode text d fault out out_now is h =
     subst (λ (x : Result Expr QueryFault). OnOk r (Plays (play_parsed mode x d) d out out_now)) (sym is)
     (plays r (replied d (refused_text fault)) d out out_now refl h)
+
+-- what comes back of a batch that was offered
+pub accepted_back : (store new : Shown) (claims : List Claim) (groups : List Group) (queries : List Hold) (packed : Spelled) (end : Result Accepted (Spelled × AcceptEnd)) (d : Desk) (a : Accepted)
+    → desk_of store claims groups queries ≡ d → Makes store new 0 (s.Accept packed) (accept_reply end) → end ≡ Ok a → IsBack None packed (step_at d (s.Accept packed)).reply
+accepted_back store new claims groups queries packed end d a is makes ended =
+    let made = subst (λ (r : Result Accepted (Spelled × AcceptEnd)). Makes store new 0 (s.Accept packed) (accept_reply r)) ended makes in
+    (a.batch, (a.first, sym (made.0 ∙ ap (λ (x : Desk). (step_at x (s.Accept packed)).reply) is)))
+
+pub full_back : (store new : Shown) (claims : List Claim) (groups : List Group) (queries : List Hold) (packed : Spelled) (end : Result Accepted (Spelled × AcceptEnd)) (d : Desk) (refused : Refused)
+    → desk_of store claims groups queries ≡ d → Makes store new 0 (s.Accept packed) (accept_reply end) → end ≡ Err (refused.packed, accept.Full refused.have refused.limit) → refused.packed ≡ packed
+    → IsBack (Some refused) packed (step_at d (s.Accept packed)).reply
+full_back store new claims groups queries packed end d refused is makes ended same =
+    let made = subst (λ (r : Result Accepted (Spelled × AcceptEnd)). Makes store new 0 (s.Accept packed) (accept_reply r)) ended makes in
+    (same, sym (made.0 ∙ ap (λ (x : Desk). (step_at x (s.Accept packed)).reply) is))

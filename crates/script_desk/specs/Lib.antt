@@ -1,3 +1,4 @@
 pub mod Desks
 pub mod Kept
+pub mod Refusals
 pub mod Texts

@@ -2,7 +2,8 @@
 ghost use Rattle.std.specs.Prelude.{◌≡◌, ◌≤◌, [], IfOk, OnOk};
 ghost use Rattle.event_history.specs.Histories.{past};
 ghost use Rattle.event_history.specs.Steps as s;
-ghost use Rattle.script_desk.specs.Desks.{Plays, play_accept, play_rows, refused_by, step_at};
+ghost use Rattle.script_desk.specs.Desks.{Plays, play_accept, play_rows, step_at};
+ghost use Rattle.script_desk.specs.Refusals.{IsBack};
 ghost use Rattle.script_desk.specs.Kept.{query_of};
 
 use crate::laws::kept_stays;
@@ -39,6 +40,14 @@ impl Hold {
             Hold::Moved => 0,
         }
     }
+}
+
+/// A batch that the store refused, since with it the `have` events that there are would pass the limit.
+#[derive(Drop)]
+pub struct Refused {
+    pub packed: Packed,
+    pub have: u64,
+    pub limit: u64,
 }
 
 /// A store with the claims, groups and takes that a script holds, and a cache for its pages. Contracts see the store's limits
@@ -96,10 +105,17 @@ impl Desk {
         push_line(b"rows ", self.store.rows(), out)
     }
 
+    /// The store, with its history. What is held is dropped.
+    pub fn into_store(self) -> Store
+        ensures { result ≡ record { limits = self.limits; history = self.history } }
+    {
+        self.store
+    }
+
     /// A batch that a source gave is accepted, or comes back where the store is full.
-    pub fn accept(&mut self, packed: Packed, out: &mut Bytes) -> Result<Option<Packed>, AllocError>
+    pub fn accept(&mut self, packed: Packed, out: &mut Bytes) -> Result<Option<Refused>, AllocError>
         ensures plays { IfOk result (λ back. Plays (play_accept packed self.old) self.new out.old out.new) }
-        ensures back { IfOk result (λ back. back ≡ refused_by packed (step_at self.old (s.Accept packed)).reply) }
+        ensures back { IfOk result (λ back. IsBack back packed (step_at self.old (s.Accept packed)).reply) }
     {
         given_stays();
         kept_stays();
@@ -115,7 +131,11 @@ impl Desk {
             Err((packed, end)) => match end {
                 AcceptEnd::Full { have, limit } => {
                     push_both(b"full ", have, b" ", limit, out)?;
-                    Ok(Some(packed))
+                    Ok(Some(Refused {
+                        packed,
+                        have,
+                        limit,
+                    }))
                 }
                 AcceptEnd::Memory => Err(AllocError),
             },

@@ -12,5 +12,6 @@ mod replies;
 #[cfg(test)]
 mod tests;
 
-pub use desk::Desk;
+pub use desk::{Desk, Refused};
 pub use laws::kept_stays;
+pub use replies::{push_line, push_told};

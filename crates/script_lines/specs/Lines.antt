@@ -1,5 +1,5 @@
 -- The grammar of a script's lines.
-use Rattle.std.specs.Prelude.{ℕ, Bool, true, false, ◌&&◌, ◌||◌, ◌==◌, ◌-◌, ◌^◌, if◌then◌else◌, List, [], ◌∷◌, Option, None, Some, codes, length, nat_le, nat_lt}
+use Rattle.std.specs.Prelude.{◌≡◌, ℕ, Bool, true, false, ◌&&◌, ◌||◌, ◌==◌, ◌-◌, ◌^◌, if◌then◌else◌, List, [], ◌∷◌, Option, None, Some, codes, length, nat_le, nat_lt}
 use Rattle.std.specs.List.{after_first, before_first, position_or_len, slice_split}
 use Rattle.std.specs.Option.{option_map}
 use Rattle.std.specs.Str.{bytes_eq}
@@ -101,6 +101,11 @@ most_of quantity.Inbox = 1024
 
 abbrev pub is_in_range : Quantity → ℕ → Bool
 is_in_range q n = nat_le 1 n && nat_le n (most_of q)
+
+-- a limit is in its range
+abbrev pub Fits : Asked → Type 0
+Fits (Limit q n) = is_in_range q n ≡ true
+Fits other = Unit {0}
 
 abbrev pub limit_to : Option Quantity → Option ℕ → Option Asked
 limit_to (Some q) (Some n) = if is_in_range q n then Some (Limit q n) else None

@@ -1,8 +1,8 @@
 //! What a line asks for.
-ghost use Rattle.std.specs.Prelude.{◌≡◌, None, Some, length, map, MatchOption};
+ghost use Rattle.std.specs.Prelude.{◌≡◌, None, Some, length, map, IfSome, MatchOption};
 ghost use Rattle.std.specs.Option.{option_map};
 ghost use Rattle.std.specs.Str.{IsUtf8};
-ghost use Rattle.script_lines.specs.Lines.{asked, asked_by, bare, by_words, cut, is_in_range, is_skipped, limit_by, limit_to, most_of, number, of_batch, of_number, of_query, of_source, query_by, query_in, quantity_of, since, since_by, source_by, with_more};
+ghost use Rattle.script_lines.specs.Lines.{Fits, asked, asked_by, bare, by_words, cut, is_in_range, is_skipped, limit_by, limit_to, most_of, number, of_batch, of_number, of_query, of_source, query_by, query_in, quantity_of, since, since_by, source_by, with_more};
 
 use crate::line::{Line, Quantity};
 use event_history::Mode;
@@ -18,9 +18,10 @@ pub fn is_skipped(text: &[u8]) -> bool
     }
 }
 
-/// What a line asks for. `None` comes exactly where it isn't in the grammar.
+/// What a line asks for. `None` comes exactly where it isn't in the grammar, and a limit is in its range.
 pub fn read_line(text: &str) -> Option<Line<'_>>
-    ensures { option_map asked_by result ≡ asked text.now }
+    ensures asked { option_map asked_by result ≡ asked text.now }
+    ensures fits { IfSome result (λ line. Fits (asked_by line)) }
 {
     match cut(text) {
         None => bare(text),
@@ -37,7 +38,8 @@ fn cut(text: &str) -> Option<(&str, &str)>
 
 // A line of one word.
 fn bare(word: &str) -> Option<Line<'_>>
-    ensures { option_map asked_by result ≡ bare word.now }
+    ensures asked { option_map asked_by result ≡ bare word.now }
+    ensures fits { IfSome result (λ line. Fits (asked_by line)) }
 {
     match word.as_bytes() {
         b"claim" => Some(Line::Claim),
@@ -50,7 +52,8 @@ fn bare(word: &str) -> Option<Line<'_>>
 
 // A line whose first word has something behind it.
 fn with_more<'a>(word: &str, more: &'a str) -> Option<Line<'a>>
-    ensures { option_map asked_by result ≡ with_more word.now more.now }
+    ensures asked { option_map asked_by result ≡ with_more word.now more.now }
+    ensures fits { IfSome result (λ line. Fits (asked_by line)) }
 {
     let word = word.as_bytes();
     if word == b"source".as_slice() {
@@ -65,7 +68,8 @@ fn with_more<'a>(word: &str, more: &'a str) -> Option<Line<'a>>
 }
 
 fn source(name: &str) -> Option<Line<'_>>
-    ensures { option_map asked_by result ≡ source_by name.now }
+    ensures asked { option_map asked_by result ≡ source_by name.now }
+    ensures fits { IfSome result (λ line. Fits (asked_by line)) }
 {
     if name.is_empty() {
         None
@@ -75,14 +79,16 @@ fn source(name: &str) -> Option<Line<'_>>
 }
 
 fn query(more: &str) -> Option<Line<'_>>
-    ensures { option_map asked_by result ≡ query_by (cut more.now) }
+    ensures asked { option_map asked_by result ≡ query_by (cut more.now) }
+    ensures fits { IfSome result (λ line. Fits (asked_by line)) }
 {
     let (mode, text) = cut(more)?;
     query_in(mode.as_bytes(), text)
 }
 
 fn query_in<'a>(mode: &[u8], text: &'a str) -> Option<Line<'a>>
-    ensures { option_map asked_by result ≡ query_in mode.now text.now }
+    ensures asked { option_map asked_by result ≡ query_in mode.now text.now }
+    ensures fits { IfSome result (λ line. Fits (asked_by line)) }
 {
     if mode == b"past".as_slice() {
         Some(Line::Query {
@@ -107,7 +113,8 @@ fn query_in<'a>(mode: &[u8], text: &'a str) -> Option<Line<'a>>
 }
 
 fn query_since(more: &str) -> Option<Line<'_>>
-    ensures { option_map asked_by result ≡ since_by (cut more.now) }
+    ensures asked { option_map asked_by result ≡ since_by (cut more.now) }
+    ensures fits { IfSome result (λ line. Fits (asked_by line)) }
 {
     let (id, text) = cut(more)?;
     let from = number(id)?;
@@ -118,7 +125,8 @@ fn query_since(more: &str) -> Option<Line<'_>>
 }
 
 fn limit(more: &str) -> Option<Line<'static>>
-    ensures { option_map asked_by result ≡ limit_by (cut more.now) }
+    ensures asked { option_map asked_by result ≡ limit_by (cut more.now) }
+    ensures fits { IfSome result (λ line. Fits (asked_by line)) }
 {
     let (word, digits) = cut(more)?;
     let quantity = quantity(word.as_bytes())?;
@@ -172,14 +180,16 @@ fn number(digits: &str) -> Option<u64>
 
 // A line of a word and a number.
 fn numbered(word: &[u8], digits: &str) -> Option<Line<'static>>
-    ensures { option_map asked_by result ≡ of_number word.now (number digits.now) }
+    ensures asked { option_map asked_by result ≡ of_number word.now (number digits.now) }
+    ensures fits { IfSome result (λ line. Fits (asked_by line)) }
 {
     let number = number(digits)?;
     of_query(word, number)
 }
 
 fn of_query(word: &[u8], query: u64) -> Option<Line<'static>>
-    ensures { option_map asked_by result ≡ of_query word.now query }
+    ensures asked { option_map asked_by result ≡ of_query word.now query }
+    ensures fits { IfSome result (λ line. Fits (asked_by line)) }
 {
     if word == b"drain".as_slice() {
         Some(Line::Drain { query })
@@ -195,7 +205,8 @@ fn of_query(word: &[u8], query: u64) -> Option<Line<'static>>
 }
 
 fn of_batch(word: &[u8], batch: u64) -> Option<Line<'static>>
-    ensures { option_map asked_by result ≡ of_batch word.now batch }
+    ensures asked { option_map asked_by result ≡ of_batch word.now batch }
+    ensures fits { IfSome result (λ line. Fits (asked_by line)) }
 {
     if word == b"index".as_slice() {
         Some(Line::Index { batch })
@@ -209,7 +220,8 @@ fn of_batch(word: &[u8], batch: u64) -> Option<Line<'static>>
 }
 
 fn of_source(word: &[u8], source: u64) -> Option<Line<'static>>
-    ensures { option_map asked_by result ≡ of_source word.now source }
+    ensures asked { option_map asked_by result ≡ of_source word.now source }
+    ensures fits { IfSome result (λ line. Fits (asked_by line)) }
 {
     if word == b"accept".as_slice() {
         Some(Line::Accept { source })

@@ -5,16 +5,22 @@ use Rattle.query_meaning.specs.declared.expr.Expr.{Expr}
 use Rattle.query_parse.specs.declared.fault.QueryFault.{QueryFault}
 use Rattle.query_parse.specs.Parsing.{parsed}
 use Rattle.vast_io.specs.Causes.{Rose}
-use Rattle.zeek_log.specs.declared.step.ZeekEnd.{ZeekEnd}
-use Rattle.zeek_log.specs.declared.step.ZeekEnd.TheVariants as end
-use Rattle.zeek_log.specs.Steps.{Steps, steps_of_source}
 use Rattle.source_block.specs.Holding.{most_bytes}
-use Rattle.vast.specs.declared.status.Status.{Status}
-use Rattle.vast.specs.declared.status.Status.TheVariants as status
-use Rattle.vast.specs.Causes.{TellsText, TellsOf, TellsSome, IsOfReport, ReadsWell, LeavesNothing, SinkStands, IsRefusal, IsRefused, Refuses, Outside, Rest, Outcome, Writes, Stands, StandsBy, SaysUnopened, SaysRefused, SaysEarly, WasOpened, IsOfCommand, IsOfFile, TellsFile, TellsScan, TellsCommand, ReportsFile, bytes_for, IsExpr, IsSound, IsWhole, IsDone, Completes, Does}
-use Rattle.vast.specs.Texts.{scan_text, check_text, usage_line}
-use Rattle.vast.specs.Words.{Wanted, Scan, Check, file_of}
-use Rattle.vast.proofs.GoingLemmas.{below_most, below_bound}
+use Rattle.zeek_log.specs.Table.{LogStep}
+use Rattle.zeek_log.specs.Steps.{steps_of, taken_steps}
+use Rattle.source_block.specs.declared.stop.Stop.TheVariants.{AtEnd}
+use Rattle.importer.specs.declared.ends.How.{How}
+use Rattle.importer.specs.declared.ends.ImportEnd.{ImportEnd}
+use Rattle.importer.specs.Ending.{Answers}
+use Rattle.importer.specs.Steps.{input_steps, input_steps_of_source}
+use Rattle.importer.proofs.LawLemmas.{below_bound, below_most, carries}
+use Rattle.input_report.specs.declared.status.Status.{Status}
+use Rattle.input_report.specs.declared.status.Status.TheVariants as status
+use Rattle.input_report.specs.Causes.{IsOfReport, LeavesNothing, ReadsWell, Rest, SinkStands, TellsOf, TellsSome, TellsSource, TellsText, rest_of}
+use Rattle.input_report.specs.Texts.{check_text, scan_text}
+use Rattle.vast.specs.Causes.{IsRefusal, IsRefused, Refuses, Outside, Outcome, Writes, Stands, StandsBy, SaysUnopened, SaysRefused, SaysEarly, WasOpened, IsOfCommand, IsOfFile, TellsFile, TellsScan, TellsCommand, ReportsFile, bytes_for, IsExpr, IsSound, IsWhole, IsDone, Completes, Does, outcome}
+use Rattle.vast.specs.Texts.{usage_line}
+use Rattle.vast.specs.Words.{Wanted, Scan, Check, Steps, file_of}
 
 module _ (before now : Outside) where
   abbrev Unopened : Status → Outcome
@@ -93,13 +99,13 @@ module _ (before now : Outside) where
   early_of None s wanted says = early_so s wanted says
   early_of (Some rest) s wanted says = tt
 
-  scanned_by : (wanted : Wanted) (text : Steps → List ℕ) (s : Status) (source : Option Rest)
+  scanned_by : (wanted : Wanted) (text : Answers LogStep → List ℕ) (s : Status) (source : Option Rest)
       → ((rest : Rest) → TellsFile (file_of wanted) text before now s rest → TellsCommand (Some wanted) before now s rest)
       → IfSome source (λ rest. TellsFile (file_of wanted) text before now s rest) → IfSome source (λ rest. TellsCommand (Some wanted) before now s rest)
   scanned_by wanted text s None tells told = tt
   scanned_by wanted text s (Some rest) tells told = tells rest told
 
-  does_file : (wanted : Wanted) (text : Steps → List ℕ) (ended : Outcome) → ¬ IsRefused (Some wanted) → ReportsFile (file_of wanted) text before now ended
+  does_file : (wanted : Wanted) (text : Answers LogStep → List ℕ) (ended : Outcome) → ¬ IsRefused (Some wanted) → ReportsFile (file_of wanted) text before now ended
       → ((rest : Rest) → TellsFile (file_of wanted) text before now ended.status rest → TellsCommand (Some wanted) before now ended.status rest) → Does (Some wanted) before now ended
   does_file wanted text ended sound reports tells = record {
     known = of_command ended.status reports.known;
@@ -156,30 +162,37 @@ module _ (before now : Outside) where
   report_opened status.Memory rest known = tt
   report_opened _ rest known = refl
 
-  pub reports_opened : (file : List ℕ) (text : Steps → List ℕ) (s : Status) (rest : Rest) (left : Option (List ℕ)) (faults : ℕ)
+  pub reports_opened : (file : List ℕ) (text : Answers LogStep → List ℕ) (s : Status) (went : How) (rest : Rest) (left : Option (List ℕ)) (faults : ℕ)
       → left ≡ before.bytes_of file → faults ≡ 0 → now.opens ≡ before.opens
-      → TellsOf s left rest.left faults rest.faults text before.written now.written → TellsSome s text before.written now.written → IsOfReport s
-      → ReadsWell s faults rest.faults → LeavesNothing s rest.left → SinkStands s before.writes now.writes
-      → (s ≡ status.ReadFault → Rose faults rest.faults) → (s ≡ status.WriteFault → Rose before.writes now.writes)
+      → TellsSource text (record { left = left; faults = faults }) rest before.written now.written s went → IsOfReport s → SinkStands s before.writes now.writes
+      → (s ≡ status.WriteFault → Rose before.writes now.writes)
       → ReportsFile file text before now (record { status = s; source = Some rest })
-  reports_opened file text s rest left faults is none same told untold known reads ends sink read write = record {
+  reports_opened file text s went rest left faults is none same tells known sink write = record {
     known = report_known s known;
     opening = λ h. absurd (not_opening s known h);
     write = write;
-    read = λ h. subst (λ (n : ℕ). Rose n rest.faults) none (read h);
+    read = λ h. subst (λ (n : ℕ). Rose n rest.faults) none (tells.read h);
     stands = report_stands s known same sink;
     opened = report_opened s rest known;
     scanned = record {
       told = subst (λ (n : ℕ). TellsOf s (before.bytes_of file) rest.left n rest.faults text before.written now.written) none
-          (subst (λ (k : Option (List ℕ)). TellsOf s k rest.left faults rest.faults text before.written now.written) is told);
-      untold = untold;
-      reads = subst (λ (n : ℕ). ReadsWell s n rest.faults) none reads;
-      ends = ends;
+          (subst (λ (k : Option (List ℕ)). TellsOf s k rest.left faults rest.faults text before.written now.written) is tells.told);
+      untold = tells.untold;
+      reads = subst (λ (n : ℕ). ReadsWell s n rest.faults) none tells.reads;
+      ends = tells.ends;
     };
     early = tt;
   }
 
-  pub reports_failed : (file : List ℕ) (text : Steps → List ℕ) → Rose before.opens now.opens → SaysUnopened file status.OpenFault before now
+  pub reports_told : {S : Type 0} (left_of : S → Option (List ℕ)) (faults_of : S → ℕ) (file : List ℕ) (text : Answers LogStep → List ℕ) (s : Status) (went : How) (source : S) (rest : Option S)
+      → left_of source ≡ before.bytes_of file → faults_of source ≡ 0 → now.opens ≡ before.opens
+      → IsSomeAnd rest (λ r. TellsSource text (rest_of left_of faults_of source) (rest_of left_of faults_of r) before.written now.written s went) → IsOfReport s
+      → SinkStands s before.writes now.writes → (s ≡ status.WriteFault → Rose before.writes now.writes) → ReportsFile file text before now (outcome left_of faults_of s rest)
+  reports_told left_of faults_of file text s went source None is none same tells known sink write = absurd tells
+  reports_told left_of faults_of file text s went source (Some r) is none same tells known sink write =
+      reports_opened file text s went (rest_of left_of faults_of r) (left_of source) (faults_of source) is none same tells known sink write
+
+  pub reports_failed : (file : List ℕ) (text : Answers LogStep → List ℕ) → Rose before.opens now.opens → SaysUnopened file status.OpenFault before now
       → ReportsFile file text before now (record { status = status.OpenFault; source = None })
   reports_failed file text rose says = record {
     known = tt;
@@ -192,7 +205,7 @@ module _ (before now : Outside) where
     early = says;
   }
 
-  pub reports_memory : (file : List ℕ) (text : Steps → List ℕ) → now.written ≡ before.written → Stands before now
+  pub reports_memory : (file : List ℕ) (text : Answers LogStep → List ℕ) → now.written ≡ before.written → Stands before now
       → ReportsFile file text before now (record { status = status.Memory; source = None })
   reports_memory file text same stands = record {
     known = tt;
@@ -205,7 +218,13 @@ module _ (before now : Outside) where
     early = same;
   }
 
-  -- ---- a sound command on a whole log
+  pub reports_unopened : {S : Type 0} (left_of : S → Option (List ℕ)) (faults_of : S → ℕ) (file : List ℕ) (text : Answers LogStep → List ℕ) (s why : Status) (rest : Option S)
+      → s ≡ why → rest ≡ None → ReportsFile file text before now (record { status = why; source = None }) → ReportsFile file text before now (outcome left_of faults_of s rest)
+  reports_unopened {S = S} left_of faults_of file text s why rest is none reports =
+      subst (λ (r : Option S). ReportsFile file text before now (outcome left_of faults_of s r)) (sym none)
+      (subst (λ (x : Status). ReportsFile file text before now (record { status = x; source = None })) (sym is) reports)
+
+  -- ---- a sound command on a whole input
 
   no_refusal : (r : Result Expr QueryFault) → IsExpr r → IsRefusal r → ⊥
   no_refusal (Ok expr) sound refused = refused
@@ -215,27 +234,28 @@ module _ (before now : Outside) where
   sound_not_refused None sound refused = sound
   sound_not_refused (Some (Check file)) sound refused = refused
   sound_not_refused (Some (Scan file query)) sound refused = no_refusal (parsed query) sound refused
+  sound_not_refused (Some (Steps script)) sound refused = refused
 
   none_lt : (n : ℕ) → ¬ Rose 0 n → nat_lt 0 n ≡ false
   none_lt zero calm = refl
   none_lt (suc n) calm = absurd (calm (omega arith))
 
-  whole_ends : (bytes rest : List ℕ) (n : ℕ) → IsWhole bytes → ¬ Rose 0 n → (steps_of_source bytes rest (nat_lt 0 n)).end ≡ end.Done
+  whole_ends : (bytes rest : List ℕ) (n : ℕ) → IsWhole bytes → ¬ Rose 0 n → (input_steps_of_source bytes rest (nat_lt 0 n)).end ≡ None
   whole_ends bytes rest n whole calm =
       let few : nat_le most_bytes (length (take (length bytes - length rest) bytes)) ≡ false =
       below_most (length (take (length bytes - length rest) bytes)) (omega (arith, whole.0, length-take (length bytes - length rest) bytes)) in
-      ap (λ (b : Bool). (steps_of_source bytes rest b).end) (none_lt n calm)
-      ∙ ap (λ (s : Steps). s.end) (below_bound bytes (take (length bytes - length rest) bytes) false few refl) ∙ whole.1
+      ap (λ (b : Bool). (input_steps_of_source bytes rest b).end) (none_lt n calm)
+      ∙ ap (λ (s : Answers LogStep). s.end) (ap carries (below_bound bytes (take (length bytes - length rest) bytes) false few refl)) ∙ whole.1
 
   abbrev EndsDone : Status → Type 0
-  EndsDone s = (t : List ℕ) × TellsText s end.Done t before.written now.written
+  EndsDone s = (t : List ℕ) × TellsText s None t before.written now.written
 
-  tells_whole : (s : Status) (known left : Option (List ℕ)) (n : ℕ) (text : Steps → List ℕ) → TellsOf s known left 0 n text before.written now.written → IsSomeAnd known IsWhole → ¬ Rose 0 n → EndsDone s
+  tells_whole : (s : Status) (known left : Option (List ℕ)) (n : ℕ) (text : Answers LogStep → List ℕ) → TellsOf s known left 0 n text before.written now.written → IsSomeAnd known IsWhole → ¬ Rose 0 n → EndsDone s
   tells_whole s None left n text tells whole calm = absurd whole
   tells_whole s (Some bytes) None n text tells whole calm = absurd tells
   tells_whole s (Some bytes) (Some rest) n text tells whole calm =
-      let steps = steps_of_source bytes rest (nat_lt 0 n) in
-      (text steps, subst (λ (e : ZeekEnd). TellsText s e (text steps) before.written now.written) (whole_ends bytes rest n whole calm) (tells (omega arith)))
+      let steps = input_steps_of_source bytes rest (nat_lt 0 n) in
+      (text steps, subst (λ (e : Option ImportEnd). TellsText s e (text steps) before.written now.written) (whole_ends bytes rest n whole calm) (tells (omega arith)))
 
   scan_whole : (r : Result Expr QueryFault) (file : List ℕ) (s : Status) (rest : Rest) → TellsScan r file before now s rest → IsSomeAnd (before.bytes_of file) IsWhole → ¬ Rose 0 rest.faults → EndsDone s
   scan_whole (Ok expr) file s rest tells whole calm = tells_whole s (before.bytes_of file) rest.left rest.faults (λ steps. scan_text steps expr) tells.told whole calm
@@ -245,6 +265,7 @@ module _ (before now : Outside) where
   command_whole None s rest tells whole calm = absurd tells
   command_whole (Some (Scan file query)) s rest tells whole calm = scan_whole (parsed query) file s rest tells whole calm
   command_whole (Some (Check file)) s rest tells whole calm = tells_whole s (before.bytes_of file) rest.left rest.faults check_text tells.told whole calm
+  command_whole (Some (Steps script)) s rest tells whole calm = absurd tells
 
   source_whole : (command : Option Wanted) (s : Status) (source : Option Rest) → IsSome source → IfSome source (λ rest. TellsCommand command before now s rest)
       → IsSomeAnd (bytes_for command before) IsWhole → IfSome source (λ rest. ¬ Rose 0 rest.faults) → EndsDone s

@@ -1,4 +1,3 @@
 pub mod CauseLemmas
-pub mod GoingLemmas
-pub mod ReportLemmas
+pub mod StepsLemmas
 mod Vectors

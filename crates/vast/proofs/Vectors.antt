@@ -1,147 +1,61 @@
 -- Values that the definitions have, computed by the prover. Each is false where its definition is wrong.
-use Rattle.std.proofs.Common.{◌≡◌, ◌≢◌, ℕ, ◌+◌, ◌-◌, ◌^◌, ◌<◌, true, false, List, [], ◌∷◌, ◌++◌, Option, None, Some, Result, Ok, Err, ◌⊎◌, ◌↔◌, IfSome, IsSomeAnd, length, codes, map, refl, ap, sym, subst, inl, inr, arith, lit≤}
-use Rattle.std.proofs.lemmas.List.{append-nil}
+use Rattle.std.proofs.Common.{◌≡◌, ◌≢◌, ℕ, ◌+◌, ◌-◌, ◌^◌, ◌<◌, false, List, [], ◌∷◌, Option, None, Some, Result, Ok, Err, ◌⊎◌, ◌↔◌, IfSome, IsSomeAnd, length, codes, map, replicate, take, fold, if◌then◌else◌, ◌==◌, refl, ap, sym, subst, inl, inr, arith, lit≤}
 use Rattle.std.specs.Fmt.{digits}
 use Rattle.std.specs.Io.KnownBytes.{append_known}
+use Rattle.std.specs.Str.{chars, is_utf8}
+use Rattle.std.specs.Char.{encode_utf8}
+use Rattle.value_text.specs.Literals.{literal_read, moment_of}
+use Rattle.vast_value.specs.ValueBytes.{number as number_bytes, text as text_bytes}
 use Rattle.source_block.specs.declared.stop.Stop.TheVariants.{AtEnd}
-use Rattle.value_text.specs.Writing.{cell_text, value_text}
 use Rattle.query_meaning.specs.declared.expr.Expr.{Expr}
-use Rattle.query_meaning.specs.Meaning.{holds}
 use Rattle.query_parse.specs.declared.fault.QueryFault.{QueryFault}
+use Rattle.query_parse.specs.declared.fault.QueryWhat.TheVariants as query
+use Rattle.query_parse.specs.Lexemes.{word_lexeme}
 use Rattle.query_parse.specs.Parsing.{parsed}
+use Rattle.query_parse.specs.Tokens.{piece_of}
 use Rattle.vast_io.specs.Causes.{Rose}
 use Rattle.vast_io.specs.Told.{WritesPart, IsAtEnd}
 use Rattle.vast_io.proofs.Writing.{part_all}
-use Rattle.vast_value.specs.declared.cell.Cell.{Cell}
-use Rattle.zeek_log.specs.Reader.{heading_or_none}
-use Rattle.zeek_log.specs.Steps.{Steps, steps_of, steps_of_source}
-use Rattle.vast.specs.declared.status.Status.{Status}
-use Rattle.vast.specs.Causes.{IsFault, TellsText, Tells, TellsOf, TellsSome, ReadsWell, LeavesNothing, Exactly, Says, IsRefusal, IsRefused, Outside, Rest, Outcome, outside, rest_of, outcome, Writes, Stands, StandsBy, SaysRefused, SaysQuery, SaysEarly, bytes_for, TellsFile, TellsScan, TellsCommand, WasOpened, IsOfCommand, Does, IsExpr, IsSound, IsWhole, IsDone, Completes}
-use Rattle.vast_value.specs.declared.cell.Cell.TheVariants.{Unset, One as OneCell}
-use Rattle.vast_value.specs.declared.kind.Elem.TheVariants as elem
-use Rattle.vast_value.specs.declared.kind.Kind.TheVariants.{One}
-use Rattle.vast_value.specs.declared.value.Value.TheVariants.{Count}
-use Rattle.vast_value.specs.Headings.{Heading}
-use Rattle.query_parse.specs.declared.fault.QueryWhat.TheVariants as query
-use Rattle.zeek_log.specs.declared.fault.ZeekFault.TheVariants as fault
-use Rattle.zeek_log.specs.declared.step.ZeekEnd.{ZeekEnd}
-use Rattle.zeek_log.specs.declared.step.ZeekEnd.TheVariants.{Done, Fault, ReadFault, TooLong}
-use Rattle.zeek_log.specs.Table.{Head, Line}
-use Rattle.vast.specs.declared.status.Status.TheVariants as status
-use Rattle.vast.specs.Numbers.{number_of}
-use Rattle.vast.specs.Texts.{line, fault_name, fault_text, end_text, Event, events_behind, events_of, row_text, matches_text, scan_end, scan_text, Part, rows_first, parts_of, part_text, check_end, check_text, usage_line, open_line, query_fault_name, refused_line}
-use Rattle.vast.specs.Words.{Wanted, Scan, Check, scan_words, check_words, command_of, file_of}
-
-abbrev heading : Heading
-heading = record { path = codes "d"; fields = record { name = codes "n"; kind = One elem.Count } ∷ [] }
-
--- Statuses
-
-numbers : map number_of (status.Done ∷ status.Usage ∷ status.QueryRefused ∷ status.OpenFault ∷ status.WriteFault ∷ status.ReadFault ∷ status.InputFault ∷ status.Full ∷ status.ScriptFault ∷ status.Memory ∷ status.TooLong ∷ []) ≡ (0 ∷ 1 ∷ 2 ∷ 3 ∷ 4 ∷ 5 ∷ 6 ∷ 7 ∷ 8 ∷ 9 ∷ 10 ∷ [])
-numbers = refl
+use Rattle.zeek_log.specs.Table.{LogStep}
+use Rattle.history_core.specs.Shown.{Shown}
+use Rattle.importer.specs.declared.ends.How.TheVariants as how
+use Rattle.importer.specs.declared.ends.ImportEnd.TheVariants.{ReadFault}
+use Rattle.importer.specs.Ending.{Answers}
+use Rattle.importer.specs.Steps.{input_steps, input_steps_of_source}
+use Rattle.input_report.specs.declared.status.Status.{Status}
+use Rattle.input_report.specs.declared.status.Status.TheVariants as status
+use Rattle.input_report.specs.Causes.{IsFault, Rest, Tells, TellsOf, TellsSome}
+use Rattle.input_report.specs.Numbers.{number_of}
+use Rattle.input_report.specs.Texts.{check_text, line, scan_text}
+use Rattle.step_script.specs.Playing.{Playing, play, starting}
+use Rattle.step_script.specs.Scripts.{script_of, usual}
+use Rattle.step_script.specs.Told.{SeenEnd}
+use Rattle.step_script.specs.Wholes.{PlaysSource}
+use Rattle.vast.specs.Causes.{Exactly, Says, IsRefusal, IsRefused, Outside, Outcome, outside, outcome, Writes, Stands, StandsBy, SaysRefused, SaysQuery, SaysEarly, SaysUnopened, bytes_for, TellsFile, TellsScan, TellsCommand, WasOpened, IsOfCommand, Does, IsExpr, IsSound, IsWhole, IsDone, Completes}
+use Rattle.vast.specs.Steps.{CompletesFile, CompletesWords, DoesFile, DoesWords, IsSoundScript, IsUnopened, Left, PlaysFile, PlaysHere, PlaysOpened, first_rest, moment, outcome_of}
+use Rattle.vast.specs.Texts.{usage_line, open_line, query_fault_name, refused_line}
+use Rattle.vast.specs.Words.{Wanted, Scan, Check, Steps, scan_words, file_words, command_of, file_of}
 
 -- Words
 
-words : map command_of ((codes "check" ∷ codes "d1" ∷ []) ∷ (codes "scan" ∷ codes "d1" ∷ codes "n == 1" ∷ []) ∷ (codes "scan" ∷ codes "d1" ∷ []) ∷ (codes "check" ∷ codes "d1" ∷ codes "x" ∷ []) ∷ (codes "scan" ∷ codes "d1" ∷ codes "n == 1" ∷ codes "x" ∷ []) ∷ (codes "scna" ∷ codes "d1" ∷ codes "n == 1" ∷ []) ∷ (codes "check" ∷ []) ∷ [] ∷ []) ≡ (Some (Check (codes "d1")) ∷ Some (Scan (codes "d1") (codes "n == 1")) ∷ None ∷ None ∷ None ∷ None ∷ None ∷ None ∷ [])
+words : map command_of ((codes "check" ∷ codes "d1" ∷ []) ∷ (codes "scan" ∷ codes "d1" ∷ codes "n == 1" ∷ []) ∷ (codes "scan" ∷ codes "d1" ∷ []) ∷ (codes "check" ∷ codes "d1" ∷ codes "x" ∷ []) ∷ (codes "scan" ∷ codes "d1" ∷ codes "n == 1" ∷ codes "x" ∷ []) ∷ (codes "scna" ∷ codes "d1" ∷ codes "n == 1" ∷ []) ∷ (codes "check" ∷ []) ∷ [] ∷ (codes "steps" ∷ codes "d1" ∷ []) ∷ []) ≡ (Some (Check (codes "d1")) ∷ Some (Scan (codes "d1") (codes "n == 1")) ∷ None ∷ None ∷ None ∷ None ∷ None ∷ None ∷ Some (Steps (codes "d1")) ∷ [])
 words = refl
 
-each_command_has_its_word : (check_words (codes "check") (codes "a") ∷ check_words (codes "scan") (codes "a") ∷ scan_words (codes "scan") (codes "a") (codes "b") ∷ scan_words (codes "check") (codes "a") (codes "b") ∷ []) ≡ (Some (Check (codes "a")) ∷ None ∷ Some (Scan (codes "a") (codes "b")) ∷ None ∷ [])
+each_command_has_its_word : (file_words (codes "check") (codes "a") ∷ file_words (codes "steps") (codes "a") ∷ file_words (codes "scan") (codes "a") ∷ scan_words (codes "scan") (codes "a") (codes "b") ∷ scan_words (codes "check") (codes "a") (codes "b") ∷ []) ≡ (Some (Check (codes "a")) ∷ Some (Steps (codes "a")) ∷ None ∷ Some (Scan (codes "a") (codes "b")) ∷ None ∷ [])
 each_command_has_its_word = refl
 
-files : (file_of (Check (codes "a")) ∷ file_of (Scan (codes "b") (codes "c")) ∷ []) ≡ (codes "a" ∷ codes "b" ∷ [])
+files : (file_of (Check (codes "a")) ∷ file_of (Scan (codes "b") (codes "c")) ∷ file_of (Steps (codes "d")) ∷ []) ≡ (codes "a" ∷ codes "b" ∷ codes "d" ∷ [])
 files = refl
-
--- Names of faults
-
-fault_names : map fault_name (fault.NoHead ∷ fault.BadSeparator ∷ fault.FieldsTypes ∷ fault.TooManyColumns ∷ fault.EmptyName ∷ fault.SameName ∷ fault.UnknownKind ∷ fault.Floating ∷ fault.CellCount ∷ fault.BadCell ∷ fault.LineTooLong ∷ []) ≡ (codes "NoHead" ∷ codes "BadSeparator" ∷ codes "FieldsTypes" ∷ codes "TooManyColumns" ∷ codes "EmptyName" ∷ codes "SameName" ∷ codes "UnknownKind" ∷ codes "Floating" ∷ codes "CellCount" ∷ codes "BadCell" ∷ codes "LineTooLong" ∷ [])
-fault_names = refl
 
 query_fault_names : map query_fault_name (query.Unexpected ∷ query.BadLiteral ∷ query.KindClash ∷ query.TooDeep ∷ query.TooLong ∷ []) ≡ (codes "Unexpected" ∷ codes "BadLiteral" ∷ codes "KindClash" ∷ codes "TooDeep" ∷ codes "TooLong" ∷ [])
 query_fault_names = refl
 
--- Lines
-
-no_layout_is_an_end_alone : check_text (record { given = []; end = Done }) ≡ line (codes "end done")
-no_layout_is_an_end_alone = refl
-
--- where all went well a scan tells nothing of the end
-ends_of_scans : (scan_end Done ∷ scan_end ReadFault ∷ scan_end TooLong ∷ check_end ReadFault ∷ []) ≡ ([] ∷ line (codes "read fault") ∷ line (codes "too long") ∷ line (codes "end read fault") ∷ [])
-ends_of_scans = refl
-
 lines : (line (codes "x") ∷ usage_line ∷ []) ≡ ((120 ∷ 10 ∷ []) ∷ line (codes "usage: vast scan FILE QUERY, steps SCRIPT, check FILE, load SEED ROWS, run FILE..") ∷ [])
 lines = refl
 
-faults_have_line_and_column : (fault_text 12 0 fault.NoHead ∷ fault_text 3 4 fault.BadCell ∷ []) ≡ (codes "fault line 12 column 0 NoHead" ∷ codes "fault line 3 column 4 BadCell" ∷ [])
-unfolding digits
-faults_have_line_and_column = refl
-
--- Steps
-
-abbrev event : Heading → List Cell → Event
-event heading cells = record { heading = heading; cells = cells }
-
-abbrev part : Heading → ℕ → Part
-part heading rows = record { heading = heading; rows = rows }
-
--- a layout of two columns under a path with a backslash
-abbrev pair : Heading
-pair = record { path = codes "a\\b"; fields = record { name = codes "m"; kind = One elem.Count } ∷ (record { name = codes "n"; kind = One elem.Count } ∷ []) }
-
--- neither has anything else
-events_are_headings_and_cells : (e : Event) → e ≡ event e.heading e.cells
-events_are_headings_and_cells e = refl
-
-parts_are_headings_and_rows : (p : Part) → p ≡ part p.heading p.rows
-parts_are_headings_and_rows p = refl
-
-rows_before_a_head_have_no_path_and_no_columns : ((heading_or_none None).path ≡ []) × ((heading_or_none None).fields ≡ [])
-rows_before_a_head_have_no_path_and_no_columns = (refl, refl)
-
-a_head_changes_the_rows_behind_it : events_behind heading (Line (Unset ∷ []) ∷ (Head pair ∷ (Line [] ∷ []))) ≡ event heading (Unset ∷ []) ∷ (event pair [] ∷ [])
-a_head_changes_the_rows_behind_it = refl
-
-rows_up_to_the_next_head : map rows_first ([] ∷ (Line [] ∷ Line [] ∷ Head heading ∷ Line [] ∷ []) ∷ (Head heading ∷ Line [] ∷ []) ∷ []) ≡ (0 ∷ 2 ∷ 0 ∷ [])
-rows_up_to_the_next_head = refl
-
-parts_tell_columns_and_rows : part_text (part pair 11) ≡ codes "layout a\\\\b columns 2 rows 11"
-unfolding digits
-parts_tell_columns_and_rows = refl
-
--- the events that match, in order, and no other
-matches_are_told : (first second third : Event) (expr : Expr) → holds first.heading first.cells expr ≡ true → holds second.heading second.cells expr ≡ false → holds third.heading third.cells expr ≡ true
-    → matches_text expr (first ∷ (second ∷ (third ∷ []))) ≡ line (row_text first) ++ line (row_text third)
-matches_are_told first second third expr one misses other = rw one (rw misses (rw other (ap (λ (rows : List ℕ). line (row_text first) ++ rows) (append-nil (line (row_text third))))))
-
-rows_are_counted_up_to_the_next_head :
-    parts_of (Head heading ∷ (Line (Unset ∷ []) ∷ (Line (Unset ∷ []) ∷ (Head heading ∷ []))))
-    ≡ part heading 2 ∷ (part heading 0 ∷ [])
-rows_are_counted_up_to_the_next_head = refl
-
--- each row with the last heading before it
-events_have_the_last_heading :
-    map (λ e. e.heading.path) (events_of (Head heading ∷ Line [] ∷ Head (record { path = codes "e"; fields = [] }) ∷ Line [] ∷ Line [] ∷ [])) ≡ (codes "d" ∷ codes "e" ∷ codes "e" ∷ [])
-events_have_the_last_heading = refl
-
--- a row is its path and each cell behind a tab
-rows_are_told : row_text (record { heading = heading; cells = Unset ∷ OneCell (Count 3) ∷ [] }) ≡ codes "d" ++ 9 ∷ 45 ∷ 9 ∷ 51 ∷ []
-unfolding cell_text value_text digits
-rows_are_told = refl
-
-other_lines : (open_line (codes "a\\b") ∷ refused_line (record { at = 4; what = query.Unexpected }) ∷ end_text (Fault 3 2 fault.Floating) ∷ []) ≡ (line (codes "open a\\\\b") ∷ line (codes "query p1 at 4 Unexpected") ∷ codes "fault line 3 column 2 Floating" ∷ [])
+other_lines : (open_line (codes "a\\b") ∷ refused_line (record { at = 4; what = query.Unexpected }) ∷ []) ≡ (line (codes "open a\\\\b") ∷ line (codes "query p1 at 4 Unexpected") ∷ [])
 unfolding digits
 other_lines = refl
-
-layouts_are_told : check_text (record { given = Head heading ∷ Line [] ∷ Line [] ∷ []; end = TooLong }) ≡ line (codes "layout d columns 1 rows 2") ++ line (codes "end too long")
-unfolding digits
-layouts_are_told = refl
-
--- a scan tells the rows that match, in order, and no other
-scan_of_a_match : (cells : List Cell) (expr : Expr) → holds heading cells expr ≡ true
-    → scan_text (record { given = Head heading ∷ Line cells ∷ []; end = ReadFault }) expr ≡ line (row_text (record { heading = heading; cells = cells })) ++ line (codes "read fault")
-scan_of_a_match cells expr h = rw h (ap (λ (rows : List ℕ). rows ++ line (codes "read fault")) (append-nil (line (row_text (record { heading = heading; cells = cells })))))
-
-scan_of_no_match : (cells : List Cell) (expr : Expr) → holds heading cells expr ≡ false → scan_text (record { given = Head heading ∷ Line cells ∷ []; end = Done }) expr ≡ []
-scan_of_no_match cells expr h = rw h refl
 
 -- ---- What the words of a promise mean
 
@@ -183,57 +97,8 @@ the_sink_is_looked_at bytes_of = inl refl
 only_the_sink_is_looked_at : (bytes_of : List ℕ → Option (List ℕ)) (before now : Option (List ℕ)) (text : List ℕ) → Writes (outside bytes_of 4 before 2) (outside bytes_of 5 now 2) text → now ≡ append_known before text
 only_the_sink_is_looked_at bytes_of before now text writes = a_sink_that_stood_took_all 2 before now text (omega arith) writes
 
--- the status that an end of a log gives
-abbrev status_of_end : ZeekEnd → Status
-status_of_end Done = status.Done
-status_of_end (Fault l c what) = status.InputFault
-status_of_end ReadFault = status.ReadFault
-status_of_end TooLong = status.TooLong
-status_of_end _ = status.Memory
-
--- the whole text with the end that the status tells, or a part of it where a write failed or memory was wanting
-whole_texts : (before : Option (List ℕ)) (text : List ℕ) → TellsText status.Done Done text before (append_known before text) × TellsText status.ReadFault ReadFault text before (append_known before text) × TellsText status.InputFault (Fault 1 2 fault.BadCell) text before (append_known before text) × TellsText status.TooLong TooLong text before (append_known before text)
-whole_texts before text = ((refl, refl), (refl, refl), (tt, refl), (refl, refl))
-
-parts_of_texts : TellsText status.WriteFault Done (codes "bc") (Some (codes "a")) (Some (codes "ab")) × TellsText status.Memory Done (codes "bc") (Some (codes "a")) (Some (codes "ab"))
-parts_of_texts = (record { count = 1; within = lit≤ tt; is = refl }, record { count = 1; within = lit≤ tt; is = refl })
-
-no_more_is_told : (end : ZeekEnd) (text : List ℕ) (before now : Option (List ℕ)) → (TellsText status.WriteFault end text before now → WritesPart before now text) × (TellsText status.Memory end text before now → WritesPart before now text)
-no_more_is_told end text before now = ((λ told. told), (λ told. told))
-
-a_status_tells_its_end : (s : Status) (end : ZeekEnd) (text : List ℕ) (before now : Option (List ℕ)) → TellsText s end text before now → s ≢ status.WriteFault → s ≢ status.Memory
-    → (status_of_end end ≡ s) × (now ≡ append_known before text)
-a_status_tells_its_end status.Done end text before now told write memory = (ap status_of_end told.0, told.1)
-a_status_tells_its_end status.ReadFault end text before now told write memory = (ap status_of_end told.0, told.1)
-a_status_tells_its_end status.TooLong end text before now told write memory = (ap status_of_end told.0, told.1)
-a_status_tells_its_end status.InputFault (Fault l c what) text before now told write memory = (refl, told.1)
-a_status_tells_its_end status.InputFault _ text before now told write memory = absurd told.0
-a_status_tells_its_end status.WriteFault end text before now told write memory = absurd (write refl)
-a_status_tells_its_end status.Memory end text before now told write memory = absurd (memory refl)
-a_status_tells_its_end _ end text before now told write memory = absurd told
-
-some_steps_are_told : (text : Steps → List ℕ) (steps : Steps) (before : Option (List ℕ)) → steps.end ≡ Done → TellsSome status.Done text before (append_known before (text steps))
-some_steps_are_told text steps before done = (steps, (done, refl))
-
-what_is_told_is_of_some_steps : (text : Steps → List ℕ) (before now : Option (List ℕ)) → TellsSome status.Done text before now → (steps : Steps) × (steps.end ≡ Done) × (now ≡ append_known before (text steps))
+what_is_told_is_of_some_steps : (text : Answers LogStep → List ℕ) (before now : Option (List ℕ)) → TellsSome status.Done text before now → (steps : Answers LogStep) × (steps.end ≡ None) × (now ≡ append_known before (text steps))
 what_is_told_is_of_some_steps text before now some = (some.0, some.1.0, some.1.1)
-
--- Which counts stand, and what is left
-
-a_read_may_fail_where_no_end_was_met : ReadsWell status.ReadFault 4 5 × ReadsWell status.WriteFault 4 5 × ReadsWell status.Memory 4 5
-a_read_may_fail_where_no_end_was_met = (tt, tt, tt)
-
-no_read_failed_before_an_end : (¬ ReadsWell status.Done 4 5) × (¬ ReadsWell status.InputFault 4 5) × (¬ ReadsWell status.TooLong 4 5)
-no_read_failed_before_an_end = ((λ same. omega (arith, same)), (λ same. omega (arith, same)), (λ same. omega (arith, same)))
-
-each_status_may_have_read_well : (s : Status) (count : ℕ) → ReadsWell s count count
-each_status_may_have_read_well status.Done count = refl
-each_status_may_have_read_well status.InputFault count = refl
-each_status_may_have_read_well status.TooLong count = refl
-each_status_may_have_read_well _ count = tt
-
-only_a_command_that_is_done_leaves_nothing : LeavesNothing status.Done (Some []) × LeavesNothing status.Done None × LeavesNothing status.InputFault (Some (codes "a")) × LeavesNothing status.ReadFault (Some (codes "a")) × LeavesNothing status.WriteFault (Some (codes "a")) × LeavesNothing status.TooLong (Some (codes "a")) × LeavesNothing status.Memory (Some (codes "a")) × (¬ LeavesNothing status.Done (Some (codes "a")))
-only_a_command_that_is_done_leaves_nothing = (refl, tt, tt, tt, tt, tt, tt, (λ none. let n : 1 ≡ 0 = ap (λ (xs : List ℕ). length xs) none in omega (arith, n)))
 
 abbrev counts : ℕ → ℕ → Outside
 counts opens writes = outside (λ name. None) opens None writes
@@ -316,15 +181,15 @@ a_source_or_none_where_memory_was_wanting : (P : Type 0) → WasOpened status.Me
 a_source_or_none_where_memory_was_wanting P = tt
 
 an_empty_log_is_done : (file : List ℕ) → TellsFile file check_text (outside (λ name. Some []) 0 (Some []) 0) (outside (λ name. Some []) 0 (Some (line (codes "end done"))) 0) status.Done (record { left = Some []; faults = 0 })
-an_empty_log_is_done file = record { told = λ few. (refl, refl); untold = (record { given = []; end = Done }, (refl, refl)); reads = refl; ends = refl }
+an_empty_log_is_done file = record { told = λ few. (refl, refl); untold = (record { given = []; end = None }, (refl, refl)); reads = refl; ends = refl }
 
-a_file_that_is_done_is_whole : (file : List ℕ) (text : Steps → List ℕ) (before now : Outside) (rest : Rest) → TellsFile file text before now status.Done rest
-    → (rest.faults ≡ 0) × IsAtEnd rest.left × ((steps : Steps) × (steps.end ≡ Done) × (now.written ≡ append_known before.written (text steps)))
+a_file_that_is_done_is_whole : (file : List ℕ) (text : Answers LogStep → List ℕ) (before now : Outside) (rest : Rest) → TellsFile file text before now status.Done rest
+    → (rest.faults ≡ 0) × IsAtEnd rest.left × ((steps : Answers LogStep) × (steps.end ≡ None) × (now.written ≡ append_known before.written (text steps)))
 a_file_that_is_done_is_whole file text before now rest tells = (tells.reads, tells.ends, what_is_told_is_of_some_steps text before.written now.written tells.untold)
 
 -- where the opener tells the bytes and nothing is left of them, the text is that of these bytes
-the_bytes_of_the_file_are_told : (file bytes : List ℕ) (text : Steps → List ℕ) (before now : Outside) (s : Status) → before.bytes_of file ≡ Some bytes → TellsFile file text before now s (record { left = Some []; faults = 0 })
-    → Tells s (steps_of_source bytes [] false) text before.written now.written
+the_bytes_of_the_file_are_told : (file bytes : List ℕ) (text : Answers LogStep → List ℕ) (before now : Outside) (s : Status) → before.bytes_of file ≡ Some bytes → TellsFile file text before now s (record { left = Some []; faults = 0 })
+    → Tells s (input_steps_of_source bytes [] false) text before.written now.written
 the_bytes_of_the_file_are_told file bytes text before now s is tells =
     let told : TellsOf s (Some bytes) (Some []) 0 0 text before.written now.written =
     subst (λ (known : Option (List ℕ)). TellsOf s known (Some []) 0 0 text before.written now.written) is tells.told in
@@ -369,29 +234,26 @@ open_line_is_written before now file does = (does.opening refl, does.early)
 -- a command that is done has used its source up, no count rose, and it has written the whole text of some steps that end so
 done_is_whole : (before now : Outside) (file : List ℕ) (rest : Rest) → Does (Some (Check file)) before now (ended_so status.Done (Some rest))
     → (rest.faults ≡ 0) × IsAtEnd rest.left × (now.opens ≡ before.opens) × (now.writes ≡ before.writes)
-    × ((steps : Steps) × (steps.end ≡ Done) × (now.written ≡ append_known before.written (check_text steps)))
+    × ((steps : Answers LogStep) × (steps.end ≡ None) × (now.written ≡ append_known before.written (check_text steps)))
 done_is_whole before now file rest does =
     let whole = a_file_that_is_done_is_whole file check_text before now rest does.scanned in
     (whole.0, whole.1, does.stands.0, does.stands.1, whole.2)
 
 -- a scan that failed to read has told of steps that end so, and the source's count rose
 failed_read_is_told : (before now : Outside) (file query : List ℕ) (expr : Expr) (rest : Rest) → parsed query ≡ Ok expr → Does (Some (Scan file query)) before now (ended_so status.ReadFault (Some rest))
-    → Rose 0 rest.faults × ((steps : Steps) × (steps.end ≡ ReadFault) × (now.written ≡ append_known before.written (scan_text steps expr)))
+    → Rose 0 rest.faults × ((steps : Answers LogStep) × (steps.end ≡ (Some ReadFault)) × (now.written ≡ append_known before.written (scan_text steps expr)))
 failed_read_is_told before now file query expr rest is does =
     let told : TellsScan (Ok expr) file before now status.ReadFault rest = subst (λ (r : Result Expr QueryFault). TellsScan r file before now status.ReadFault rest) is does.scanned in
     (does.read refl, (told.untold.0, told.untold.1.0, told.untold.1.1))
 
 -- the bytes that the opener tells are told
 bytes_are_told : (before now : Outside) (file bytes : List ℕ) (s : Status) → before.bytes_of file ≡ Some bytes → Does (Some (Check file)) before now (ended_so s (Some (record { left = Some []; faults = 0 })))
-    → Tells s (steps_of_source bytes [] false) check_text before.written now.written
+    → Tells s (input_steps_of_source bytes [] false) check_text before.written now.written
 bytes_are_told before now file bytes s is does = the_bytes_of_the_file_are_told file bytes check_text before now s is does.scanned
 
 -- a fault of the log is told as such, and want of memory hides no failed write
-fault_is_told : (before now : Outside) (file : List ℕ) (rest : Rest) → Does (Some (Check file)) before now (ended_so status.InputFault (Some rest)) → (steps : Steps) × IsFault steps.end
+fault_is_told : (before now : Outside) (file : List ℕ) (rest : Rest) → Does (Some (Check file)) before now (ended_so status.InputFault (Some rest)) → (steps : Answers LogStep) × IsFault steps.end
 fault_is_told before now file rest does = let some = does.scanned.untold in (some.0, some.1.0)
-
-no_other_fault : IsFault Done → ⊥
-no_other_fault h = h
 
 memory_hides_nothing : (command : Option Wanted) (before now : Outside) (source : Option Rest) → Does command before now (ended_so status.Memory source) → (now.opens ≡ before.opens) × (now.writes ≡ before.writes)
 memory_hides_nothing command before now source does = does.stands
@@ -410,9 +272,6 @@ write_fault_has_its_cause command before now source does = does.write refl
 outsides : (bytes_of : List ℕ → Option (List ℕ)) → ((outside bytes_of 1 (Some []) 2).opens ≡ 1) × ((outside bytes_of 1 (Some []) 2).writes ≡ 2) × (bytes_for (Some (Check (codes "f"))) (outside bytes_of 1 (Some []) 2) ≡ bytes_of (codes "f"))
 outsides bytes_of = (refl, refl, refl)
 
-what_was_left : rest_of {S = ℕ} (λ n. Some (n ∷ [])) (λ n. n + 1) 4 ≡ record { left = Some (4 ∷ []); faults = 5 }
-what_was_left = refl
-
 outcomes : outcome {S = ℕ} (λ n. Some (n ∷ [])) (λ n. n + 1) status.Done (Some 4) ≡ ended_so status.Done (Some (record { left = Some (4 ∷ []); faults = 5 }))
 outcomes = refl
 
@@ -423,7 +282,182 @@ is_done status.Memory h = inr refl
 is_done _ h = absurd h
 
 whole_log_is_done : (before now : Outside) (file query bytes : List ℕ) (expr : Expr) (ended : Outcome) → parsed query ≡ Ok expr → before.bytes_of file ≡ Some bytes → length bytes < 2 ^ 36
-    → (steps_of bytes AtEnd).end ≡ Done → ¬ Rose before.opens now.opens → ¬ Rose before.writes now.writes → IfSome ended.source (λ rest. ¬ Rose 0 rest.faults)
+    → (input_steps bytes AtEnd).end ≡ None → ¬ Rose before.opens now.opens → ¬ Rose before.writes now.writes → IfSome ended.source (λ rest. ¬ Rose 0 rest.faults)
     → Completes (Some (Scan file query)) before now ended → (ended.status ≡ status.Done) ⊎ (ended.status ≡ status.Memory)
 whole_log_is_done before now file query bytes expr ended read is few whole opens writes calm complete =
     is_done ended.status (complete (subst IsExpr (sym read) tt) (subst (λ (known : Option (List ℕ)). IsSomeAnd known IsWhole) (sym is) (few, whole)) opens writes calm)
+
+-- ---- What a command leaves
+
+text_bytes_behind_their_number : (map text_bytes (codes "ab" ∷ [] ∷ []) ≡ (2 ∷ 0 ∷ 0 ∷ 0 ∷ 97 ∷ 98 ∷ []) ∷ (0 ∷ 0 ∷ 0 ∷ 0 ∷ []) ∷ []) × (take 5 (text_bytes (replicate 258 97)) ≡ 2 ∷ 1 ∷ 0 ∷ 0 ∷ 97 ∷ [])
+unfolding number_bytes
+text_bytes_behind_their_number = (refl, refl)
+
+abbrev left : Status → Option Shown → List SeenEnd → Option Rest → Left
+left s store ends script = record { status = s; store = store; ends = ends; script = script }
+
+abbrev used_up : Rest
+used_up = record { left = Some []; faults = 0 }
+
+abbrev seen : Option Rest → SeenEnd
+seen rest = record { source = 1; name = codes "f"; rows = 0; how = how.Done; rest = rest }
+
+the_first_source : map first_rest ([] ∷ (seen (Some used_up) ∷ seen None ∷ []) ∷ (seen None ∷ seen (Some used_up) ∷ []) ∷ []) ≡ None ∷ Some used_up ∷ None ∷ []
+the_first_source = refl
+
+outcomes_of_what_is_left : (outcome_of (left status.Done None (seen (Some used_up) ∷ []) None) ≡ ended_so status.Done (Some used_up)) × (outcome_of (left status.Usage None [] (Some used_up)) ≡ ended_so status.Usage None)
+outcomes_of_what_is_left = (refl, refl)
+
+a_moment : moment (outside (λ name. None) 1 (Some (codes "a")) 2) ≡ record { opens = 1; written = Some (codes "a"); writes = 2 }
+a_moment = refl
+
+-- Commands on one file
+
+unopened_is_said : SaysUnopened (codes "f") status.OpenFault (wrote []) (wrote (open_line (codes "f"))) × SaysUnopened (codes "f") status.Memory (wrote (codes "a")) (wrote (codes "a"))
+unopened_is_said = (inl refl, refl)
+
+nothing_else_is_said : (¬ SaysUnopened (codes "f") status.Done (wrote []) (wrote [])) × (¬ SaysUnopened (codes "f") status.Memory (wrote []) (wrote (codes "a")))
+nothing_else_is_said = ((λ says. says), (λ says. cc))
+
+abbrev bytes_in : Option (List ℕ) → ℕ
+bytes_in None = 0
+bytes_in (Some bytes) = length bytes
+
+no_other_name_is_said : SaysUnopened (codes "f") status.OpenFault (wrote []) (wrote (open_line (codes "fg"))) → ⊥
+no_other_name_is_said (inl all) = let same = ap bytes_in all in omega (arith, same)
+no_other_name_is_said (inr part) = omega (arith, part.0)
+
+words_are_no_command : Does None (wrote []) (wrote usage_line) (ended_so status.Usage None)
+words_are_no_command = record {
+  known = tt;
+  usage = record { only = λ same. refl; always = λ cause other. refl };
+  refused = record { only = λ same. differ status.Usage status.QueryRefused (λ n. omega (arith, n)) same; always = λ cause other. absurd cause };
+  opening = λ same. absurd (differ status.Usage status.OpenFault (λ n. omega (arith, n)) same);
+  write = λ same. absurd (differ status.Usage status.WriteFault (λ n. omega (arith, n)) same);
+  read = λ same. absurd (differ status.Usage status.ReadFault (λ n. omega (arith, n)) same);
+  stands = refl;
+  opened = λ some. cc;
+  scanned = tt;
+  early = inl refl;
+}
+
+no_file : DoesFile None (wrote []) (wrote usage_line) (left status.Usage None [] None)
+no_file = record { does = words_are_no_command; store = refl; script = refl }
+
+-- there is no store and no script, and words that are no command are told
+no_other_file : (store : Shown) → (¬ DoesFile None (wrote []) (wrote usage_line) (left status.Usage (Some store) [] None)) × (¬ DoesFile None (wrote []) (wrote usage_line) (left status.Usage None [] (Some used_up))) × (¬ DoesFile None (wrote []) (wrote usage_line) (left status.Done None [] None))
+no_other_file store = (
+  (λ does. let same = does.store in cc),
+  (λ does. let same = does.script in cc),
+  (λ does. differ status.Done status.Usage (λ n. omega (arith, n)) (does.does.usage.always refl (differ status.Done status.Memory (λ n. omega (arith, n))))),
+)
+
+-- Scripts that were not opened
+
+abbrev unopened : Outside
+unopened = outside (λ name. None) 1 (Some (open_line (codes "s"))) 0
+
+is_unopened : IsUnopened (codes "s") (wrote []) unopened (left status.OpenFault None [] None)
+is_unopened = record { says = inl refl; opening = λ same. omega arith; stands = tt; store = refl; ends = refl }
+
+is_not_unopened : (store : Shown) → (¬ IsUnopened (codes "s") (wrote []) (wrote (open_line (codes "s"))) (left status.OpenFault None [] None))
+    × (¬ IsUnopened (codes "s") (wrote []) unopened (left status.OpenFault None (seen None ∷ []) None))
+    × (¬ IsUnopened (codes "s") (wrote []) unopened (left status.OpenFault (Some store) [] None))
+    × (¬ IsUnopened (codes "s") (wrote []) unopened (left status.Done None [] None))
+    × (¬ IsUnopened (codes "s") (wrote []) (outside (λ name. None) 0 (Some []) 1) (left status.Memory None [] None))
+is_not_unopened store = ((λ is. omega (arith, is.opening refl)), (λ is. let same = is.ends in cc), (λ is. let same = is.store in cc), (λ is. is.says), (λ is. omega (arith, is.stands.1)))
+
+-- Scripts that were: here one of no bytes
+
+abbrev no_bytes : Outside
+no_bytes = outside (λ name. Some []) 0 (Some []) 0
+
+abbrev no_entries : Shown
+no_entries = record { limits = usual.limits; history = [] }
+
+abbrev played : Left
+played = left status.Done (Some no_entries) [] (Some used_up)
+
+no_bytes_are_played : PlaysSource no_bytes.bytes_of (no_bytes.bytes_of (codes "s")) 0 used_up (moment no_bytes) (moment no_bytes) 7 7 status.Done (Some no_entries) []
+no_bytes_are_played = record {
+  read = Ok [];
+  reads = (refl, (refl, (lit≤ tt, refl)));
+  plays = record {
+    played = [];
+    rest = [];
+    lines = refl;
+    at = starting usual;
+    runs = refl;
+    why = record { all = refl; text = refl; status = refl; stand = (refl, refl) };
+    history = refl;
+    sources = tt;
+    reads = lit≤ tt;
+  };
+}
+
+played_here : PlaysHere no_bytes.bytes_of (Some []) 0 used_up (moment no_bytes) (moment no_bytes) status.Done (Some no_entries) []
+played_here = (7, (7, no_bytes_are_played))
+
+opened_or_not : PlaysOpened (Some used_up) (codes "s") no_bytes no_bytes played × PlaysOpened None (codes "s") (wrote []) unopened (left status.OpenFault None [] None) × (¬ PlaysOpened None (codes "s") no_bytes no_bytes played)
+opened_or_not = (played_here, is_unopened, (λ plays. plays.says))
+
+-- a script that was opened is left
+plays_what_is_left : PlaysFile (codes "s") no_bytes no_bytes played × PlaysFile (codes "s") (wrote []) unopened (left status.OpenFault None [] None) × (¬ PlaysFile (codes "s") no_bytes no_bytes (left status.Done (Some no_entries) [] None))
+plays_what_is_left = (played_here, is_unopened, (λ plays. plays.says))
+
+does_what_the_words_are : DoesWords None (wrote []) (wrote usage_line) (left status.Usage None [] None) × DoesWords (Some (Steps (codes "s"))) no_bytes no_bytes played
+does_what_the_words_are = (no_file, (7, (7, no_bytes_are_played)))
+
+does_nothing_else : (before now : Outside) → (¬ DoesWords None before now played) × (¬ DoesWords (Some (Check (codes "s"))) before now played) × (¬ DoesWords (Some (Scan (codes "s") (codes "q"))) before now played) × (¬ DoesWords (Some (Steps (codes "s"))) before now (left status.Usage None [] None))
+does_nothing_else before now = ((λ does. let same = does.store in cc), (λ does. let same = does.store in cc), (λ does. let same = does.store in cc), (λ does. does.says))
+
+-- Sound scripts
+
+sound_scripts : IsSoundScript [] × (¬ IsSoundScript (codes "x"))
+unfolding is_utf8 chars encode_utf8
+sound_scripts = ((omega arith, refl), (λ sound. let same = sound.1 in cc))
+
+most_of_a_script : (bytes : List ℕ) → length bytes ≡ 1048577 → ¬ IsSoundScript bytes
+most_of_a_script bytes size sound = omega (arith, size, sound.0)
+
+-- a full store leaves a sound script incomplete, and of one that isn't sound nothing is said
+completes_a_script : CompletesFile (codes "s") no_bytes no_bytes played × CompletesFile (codes "s") (wrote []) (wrote []) (left status.ScriptFault None [] None) × (¬ CompletesFile (codes "s") no_bytes no_bytes (left status.Full None [] None))
+completes_a_script = (
+  (λ sound opens writes reads good. tt),
+  (λ sound opens writes reads good. absurd sound),
+  (λ completes. completes (omega arith, refl) (λ rose. omega (arith, rose)) (λ rose. omega (arith, rose)) tt tt),
+)
+
+-- nothing is said where a count of faults rose or a source is not good
+promises_no_more : CompletesFile (codes "s") no_bytes (outside (λ name. None) 1 (Some []) 0) (left status.OpenFault None [] None)
+    × CompletesFile (codes "s") no_bytes (outside (λ name. None) 0 (Some []) 1) (left status.WriteFault None [] None)
+    × CompletesFile (codes "s") no_bytes no_bytes (left status.ReadFault None [] (Some (record { left = None; faults = 1 })))
+    × CompletesFile (codes "s") no_bytes no_bytes (left status.Full None (record { source = 1; name = codes "f"; rows = 0; how = how.Full 1 2; rest = None } ∷ []) None)
+promises_no_more = (
+  (λ sound opens writes reads good. absurd (opens (omega arith))),
+  (λ sound opens writes reads good. absurd (writes (omega arith))),
+  (λ sound opens writes reads good. absurd (reads (omega arith))),
+  (λ sound opens writes reads good. let same = good.0.taken in absurd cc),
+)
+
+completes_what_the_words_are : CompletesWords (Some (Steps (codes "s"))) no_bytes no_bytes played × CompletesWords None no_bytes no_bytes (left status.Usage None [] None)
+    × (¬ CompletesWords (Some (Steps (codes "s"))) no_bytes no_bytes (left status.Full None [] None)) × (¬ CompletesWords (Some (Check (codes "s"))) no_bytes no_bytes (left status.InputFault None [] None))
+completes_what_the_words_are = (
+  (λ sound opens writes reads good. tt),
+  (λ sound whole opens writes reads. absurd sound),
+  (λ completes. completes (omega arith, refl) (λ rose. omega (arith, rose)) (λ rose. omega (arith, rose)) tt tt),
+  (λ completes. completes tt (omega arith, refl) (λ rose. omega (arith, rose)) (λ rose. omega (arith, rose)) tt),
+)
+
+-- A script of queries from its bytes on, with `$` for the end of a line. None is told of an event, and each line has its reply.
+
+abbrev plays : List ℕ → Playing
+plays script = fold (λ p line. play line None p) (starting (script_of script).settings) (script_of script).lines
+
+abbrev lines_of : List ℕ → List ℕ
+lines_of text = map (λ b. if b == 36 then 10 else b) text
+
+queries_of_a_script : (plays (lines_of (codes "limit queries 2$query past n == 1$query both n = 1$query since 1 n == 1$query coming n == 1$query both n == 1$drain 1$leave 2$drain 2"))).text
+    ≡ lines_of (codes "query 1 from 0$query refused 2 Unexpected$ahead 1 0$query 2 from 0$too many 2$page 1 past 0 live 0 found 0 checked 0 touched 0 again none$left 2$already left 2$")
+unfolding parsed piece_of word_lexeme literal_read moment_of digits is_utf8 chars encode_utf8
+queries_of_a_script = refl

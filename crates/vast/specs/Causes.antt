@@ -1,74 +1,23 @@
 -- What each status of the program means.
-use Rattle.std.specs.Prelude.{◌≡◌, ◌≢◌, ℕ, ◌-◌, ◌^◌, ◌<◌, nat_lt, List, Option, None, Some, Result, Ok, Err, ◌⊎◌, IfSome, IfNone, IsSomeAnd, IsSome, length}
+use Rattle.std.specs.Prelude.{◌≡◌, ◌≢◌, ℕ, ◌^◌, ◌<◌, List, Option, None, Some, Result, Ok, Err, ◌⊎◌, IfSome, IfNone, IsSomeAnd, IsSome, length}
 use Rattle.std.specs.Option.{option_map}
 use Rattle.std.specs.Io.KnownBytes.{append_known}
 use Rattle.query_meaning.specs.declared.expr.Expr.{Expr}
 use Rattle.query_parse.specs.declared.fault.QueryFault.{QueryFault}
 use Rattle.query_parse.specs.Parsing.{parsed}
-use Rattle.vast_io.specs.Causes.{Rose}
-use Rattle.vast_io.specs.Told.{WritesPart, IsAtEnd}
-use Rattle.zeek_log.specs.declared.step.ZeekEnd.TheVariants as end
-use Rattle.zeek_log.specs.declared.step.ZeekEnd.{ZeekEnd}
 use Rattle.source_block.specs.declared.stop.Stop.TheVariants.{AtEnd}
-use Rattle.zeek_log.specs.Steps.{Steps, steps_of, steps_of_source}
-use Rattle.vast.specs.declared.status.Status.{Status}
-use Rattle.vast.specs.declared.status.Status.TheVariants.{Done, Usage, QueryRefused, OpenFault, WriteFault, ReadFault, InputFault, Full, ScriptFault, TooLong, Memory}
-use Rattle.vast.specs.Texts.{scan_text, check_text, usage_line, refused_line, open_line}
-use Rattle.vast.specs.Words.{Wanted, Scan, Check, file_of}
-
-abbrev pub IsFault : ZeekEnd → Type 0
-IsFault (end.Fault at column what) = Unit {0}
-IsFault _ = ⊥
-
--- what was written of a text that ends so, and with which status
-abbrev pub TellsText : Status → ZeekEnd → List ℕ → Option (List ℕ) → Option (List ℕ) → Type 0
-TellsText Done e text before now = (e ≡ end.Done) × (now ≡ append_known before text)
-TellsText ReadFault e text before now = (e ≡ end.ReadFault) × (now ≡ append_known before text)
-TellsText InputFault e text before now = IsFault e × (now ≡ append_known before text)
-TellsText TooLong e text before now = (e ≡ end.TooLong) × (now ≡ append_known before text)
-TellsText WriteFault e text before now = WritesPart before now text
-TellsText Memory e text before now = WritesPart before now text
-TellsText _ e text before now = ⊥
-
--- what was written of a log with these steps, of which a command tells this text, and how the log ended
-abbrev pub Tells : Status → Steps → (Steps → List ℕ) → Option (List ℕ) → Option (List ℕ) → Type 0
-Tells status steps text before now = TellsText status steps.end (text steps) before now
-
--- the same of a source that had these bytes, where it tells them and its count of faults can rise
-abbrev pub TellsOf : Status → Option (List ℕ) → Option (List ℕ) → ℕ → ℕ → (Steps → List ℕ) → Option (List ℕ) → Option (List ℕ) → Type 0
-TellsOf status left left_now faults faults_now text before now =
-    IfSome left (λ bytes. IsSomeAnd left_now (λ rest. faults < 2 ^ 64 - 1 → Tells status (steps_of_source bytes rest (nat_lt faults faults_now)) text before now))
-
--- The same of a source that tells nothing: what was written is told of some steps, and these end so.
-abbrev pub TellsSome : Status → (Steps → List ℕ) → Option (List ℕ) → Option (List ℕ) → Type 0
-TellsSome status text before now = (steps : Steps) × Tells status steps text before now
-
--- no read failed where a log ended by itself
-abbrev pub ReadsWell : Status → ℕ → ℕ → Type 0
-ReadsWell Done faults faults_now = faults_now ≡ faults
-ReadsWell InputFault faults faults_now = faults_now ≡ faults
-ReadsWell TooLong faults faults_now = faults_now ≡ faults
-ReadsWell _ faults faults_now = Unit {0}
-
--- where all went well, nothing is left of the source
-abbrev pub LeavesNothing : Status → Option (List ℕ) → Type 0
-LeavesNothing Done left = IsAtEnd left
-LeavesNothing _ left = Unit {0}
-
--- the sink's count of faults stands, but where the sink failed
-abbrev pub SinkStands : Status → ℕ → ℕ → Type 0
-SinkStands WriteFault faults faults_now = Unit {0}
-SinkStands _ faults faults_now = faults_now ≡ faults
-
--- the statuses that a command on an opened source ends with
-abbrev pub IsOfReport : Status → Type 0
-IsOfReport Done = Unit {0}
-IsOfReport WriteFault = Unit {0}
-IsOfReport ReadFault = Unit {0}
-IsOfReport InputFault = Unit {0}
-IsOfReport TooLong = Unit {0}
-IsOfReport Memory = Unit {0}
-IsOfReport _ = ⊥
+use Rattle.vast_io.specs.Causes.{Rose}
+use Rattle.vast_io.specs.Told.{WritesPart}
+use Rattle.zeek_log.specs.Table.{LogStep}
+use Rattle.importer.specs.declared.ends.SourceEnd.{SourceEnd}
+use Rattle.importer.specs.Ending.{Answers}
+use Rattle.importer.specs.Steps.{input_steps}
+use Rattle.input_report.specs.declared.status.Status.{Status}
+use Rattle.input_report.specs.declared.status.Status.TheVariants.{Done, Usage, QueryRefused, OpenFault, WriteFault, ReadFault, InputFault, Full, ScriptFault, TooLong, Memory}
+use Rattle.input_report.specs.Causes.{LeavesNothing, ReadsWell, Rest, TellsOf, TellsSome, rest_of}
+use Rattle.input_report.specs.Texts.{check_text, scan_text}
+use Rattle.vast.specs.Texts.{usage_line, refused_line, open_line}
+use Rattle.vast.specs.Words.{Wanted, Scan, Check, Steps, file_of}
 
 -- The status comes exactly where P holds, but that want of memory may come in its place.
 pub record Exactly (status wanted : Status) (P : Type 0) : Type 0 where
@@ -98,11 +47,6 @@ pub record Outside : Type 0 where
   pub written : Option (List ℕ)
   pub writes : ℕ
 
--- A source as it was left: its bytes, where it tells them, and its count of faults.
-pub record Rest : Type 0 where
-  pub left : Option (List ℕ)
-  pub faults : ℕ
-
 -- how a command ended, and the source that it opened, if it did
 pub record Outcome : Type 0 where
   pub status : Status
@@ -111,8 +55,10 @@ pub record Outcome : Type 0 where
 abbrev pub outside : (List ℕ → Option (List ℕ)) → ℕ → Option (List ℕ) → ℕ → Outside
 outside bytes_of opens written writes = record { bytes_of = bytes_of; opens = opens; written = written; writes = writes }
 
-abbrev pub rest_of : {S : Type 0} → (S → Option (List ℕ)) → (S → ℕ) → S → Rest
-rest_of left_of faults_of source = record { left = left_of source; faults = faults_of source }
+-- the source of an end, if there is one
+abbrev pub rest_in : {S : Type 0} → Option (SourceEnd S) → Option S
+rest_in None = None
+rest_in (Some e) = e.rest
 
 abbrev pub outcome : {S : Type 0} → (S → Option (List ℕ)) → (S → ℕ) → Status → Option S → Outcome
 outcome left_of faults_of status source = record { status = status; source = option_map (rest_of left_of faults_of) source }
@@ -164,7 +110,7 @@ bytes_for (Some wanted) out = out.bytes_of (file_of wanted)
 
 -- What was written where a source was opened: the text of the bytes of its name, where the opener tells them, and else of
 -- some steps that end so.
-pub record TellsFile (file : List ℕ) (text : Steps → List ℕ) (before now : Outside) (status : Status) (rest : Rest) : Type 0 where
+pub record TellsFile (file : List ℕ) (text : Answers LogStep → List ℕ) (before now : Outside) (status : Status) (rest : Rest) : Type 0 where
   pub told : TellsOf status (before.bytes_of file) rest.left 0 rest.faults text before.written now.written
   pub untold : TellsSome status text before.written now.written
   pub reads : ReadsWell status 0 rest.faults
@@ -178,6 +124,7 @@ TellsScan (Err fault) file before now status rest = ⊥
 abbrev pub TellsCommand : Option Wanted → Outside → Outside → Status → Rest → Type 0
 TellsCommand (Some (Scan file query)) before now status rest = TellsScan (parsed query) file before now status rest
 TellsCommand (Some (Check file)) before now status rest = TellsFile file check_text before now status rest
+TellsCommand (Some (Steps script)) before now status rest = ⊥
 TellsCommand None before now status rest = ⊥
 
 -- a source was opened exactly at these statuses, but for want of memory
@@ -207,7 +154,7 @@ pub record Does (command : Option Wanted) (before now : Outside) (ended : Outcom
   pub scanned : IfSome ended.source (λ rest. TellsCommand command before now ended.status rest)
   pub early : IfNone ended.source (SaysEarly command ended.status before now)
 
--- ---- a sound command on a whole log
+-- ---- a sound command on a whole input
 
 abbrev pub IsExpr : Result Expr QueryFault → Type 0
 IsExpr (Ok expr) = Unit {0}
@@ -217,18 +164,19 @@ IsExpr (Err fault) = ⊥
 abbrev pub IsSound : Option Wanted → Type 0
 IsSound (Some (Scan file query)) = IsExpr (parsed query)
 IsSound (Some (Check file)) = Unit {0}
+IsSound (Some (Steps script)) = ⊥
 IsSound None = ⊥
 
--- the bytes are fewer than are taken of a source, and a log without a fault
+-- the bytes are fewer than are taken of a source, and an input without a fault
 abbrev pub IsWhole : List ℕ → Type 0
-IsWhole bytes = (length bytes < 2 ^ 36) × ((steps_of bytes AtEnd).end ≡ end.Done)
+IsWhole bytes = (length bytes < 2 ^ 36) × ((input_steps bytes AtEnd).end ≡ None)
 
 abbrev pub IsDone : Status → Type 0
 IsDone Done = Unit {0}
 IsDone Memory = Unit {0}
 IsDone _ = ⊥
 
--- A sound command on a whole log is done where no count of faults rose, but that want of memory may come in its place.
+-- A sound command on a whole input is done where no count of faults rose, but that want of memory may come in its place.
 abbrev pub Completes : Option Wanted → Outside → Outside → Outcome → Type 0
 Completes command before now ended =
     IsSound command → IsSomeAnd (bytes_for command before) IsWhole → ¬ Rose before.opens now.opens → ¬ Rose before.writes now.writes
@@ -256,7 +204,7 @@ Refuses Memory fault faults faults_now before now = (now ≡ before) × (faults_
 Refuses _ fault faults faults_now before now = ⊥
 
 -- what became of a file of which this is told
-pub record ReportsFile (file : List ℕ) (text : Steps → List ℕ) (before now : Outside) (ended : Outcome) : Type 0 where
+pub record ReportsFile (file : List ℕ) (text : Answers LogStep → List ℕ) (before now : Outside) (ended : Outcome) : Type 0 where
   pub known : IsOfFile ended.status
   pub opening : ended.status ≡ OpenFault → Rose before.opens now.opens
   pub write : ended.status ≡ WriteFault → Rose before.writes now.writes

@@ -1,7 +1,4 @@
 pub mod Causes
-pub mod Going
-pub mod Numbers
-pub mod Reports
+pub mod Steps
 pub mod Texts
 pub mod Words
-pub mod Writing

@@ -1,28 +1,33 @@
 //! A command on one file.
-ghost use Rattle.std.specs.Prelude.{◌≡◌, ◌≤◌, None, Some};
-ghost use Rattle.vast.specs.Causes.{Says, Does, Refuses, ReportsFile, outcome, outside};
+ghost use Rattle.std.specs.Prelude.{◌≡◌, ◌≤◌, ℕ, List, None, Some, IfErr, IfOk, OnOk};
+ghost use Rattle.zeek_log.specs.Table.{LogStep};
+ghost use Rattle.importer.specs.Ending.{Answers};
+ghost use Rattle.input_report.specs.Texts.{check_text, scan_text};
+ghost use Rattle.step_script.specs.Runs.{Agree};
+ghost use Rattle.vast.specs.Causes.{Says, Does, Refuses, ReportsFile, outcome, outside, rest_in};
+ghost use Rattle.vast.specs.Texts.{open_line};
 ghost use Rattle.vast.specs.Words.{Scan, Check};
 
-use crate::checking::CheckReport;
-use crate::report::{Report, write_report};
-use crate::scanning::ScanReport;
-use crate::status::Status;
 use crate::texts::{open_line, refused_line};
+use importer::SourceEnd;
+use input_report::{Status, check_source, scan_source};
+use query_meaning::Expr;
 use query_parse::{ParseEnd, QueryFault, parse};
-use std::alloc::Global;
+use std::alloc::{AllocError, Global};
 use vast_io::{OpenEnd, Opener, Sink, write_all};
+use vast_value::Bytes;
 
-/// How a command ended.
+/// How a command on one file ended.
 #[derive(Drop)]
-pub struct Ended<O: Opener> {
+pub struct Reported<O: Opener> {
     pub status: Status,
-    /// The opened source as it was left. It is `None` exactly where none was opened, and may be `None` under `Memory`.
-    pub rest: Option<O::Src>,
+    /// The end of the source. It is `None` exactly where none was opened, and may be `None` under `Memory`.
+    pub end: Option<SourceEnd<O::Src>>,
 }
 
 /// Refuses words that are no command.
-pub fn refuse_words<O: Opener, K: Sink>(opener: &O, sink: &mut K) -> Ended<O>
-    ensures does { Does None (outside (O.bytes_of opener.now) (O.faults opener.now) (K.written sink.old) (K.faults sink.old)) (outside (O.bytes_of opener.now) (O.faults opener.now) (K.written sink.new) (K.faults sink.new)) (outcome O.Src.left O.Src.faults result.status result.rest) }
+pub fn refuse_words<O: Opener, K: Sink>(opener: &O, sink: &mut K) -> Reported<O>
+    ensures does { Does None (outside (O.bytes_of opener.now) (O.faults opener.now) (K.written sink.old) (K.faults sink.old)) (outside (O.bytes_of opener.now) (O.faults opener.now) (K.written sink.new) (K.faults sink.new)) (outcome O.Src.left O.Src.faults result.status (rest_in result.end)) }
 {
     say(
         sink,
@@ -38,14 +43,11 @@ pub fn scan_file<O: Opener, K: Sink>(
     query: &str,
     opener: &mut O,
     sink: &mut K,
-) -> Ended<O>
-    ensures does { Does (Some (Scan file.now query.now)) (outside (O.bytes_of opener.old) (O.faults opener.old) (K.written sink.old) (K.faults sink.old)) (outside (O.bytes_of opener.new) (O.faults opener.new) (K.written sink.new) (K.faults sink.new)) (outcome O.Src.left O.Src.faults result.status result.rest) }
+) -> Reported<O>
+    ensures does { Does (Some (Scan file.now query.now)) (outside (O.bytes_of opener.old) (O.faults opener.old) (K.written sink.old) (K.faults sink.old)) (outside (O.bytes_of opener.new) (O.faults opener.new) (K.written sink.new) (K.faults sink.new)) (outcome O.Src.left O.Src.faults result.status (rest_in result.end)) }
 {
     match parse(alloc, query) {
-        Ok(expr) => {
-            let report = ScanReport::new(expr);
-            report_file(alloc, file, report, opener, sink)
-        }
+        Ok(expr) => scan_opened(alloc, file, &expr, opener, sink),
         Err(ParseEnd::Fault(fault)) => unopened(refuse_query(alloc, fault, sink)),
         Err(ParseEnd::Memory) => unopened(Status::Memory),
     }
@@ -57,14 +59,10 @@ pub fn check_file<O: Opener, K: Sink>(
     file: &str,
     opener: &mut O,
     sink: &mut K,
-) -> Ended<O>
-    ensures does { Does (Some (Check file.now)) (outside (O.bytes_of opener.old) (O.faults opener.old) (K.written sink.old) (K.faults sink.old)) (outside (O.bytes_of opener.new) (O.faults opener.new) (K.written sink.new) (K.faults sink.new)) (outcome O.Src.left O.Src.faults result.status result.rest) }
+) -> Reported<O>
+    ensures does { Does (Some (Check file.now)) (outside (O.bytes_of opener.old) (O.faults opener.old) (K.written sink.old) (K.faults sink.old)) (outside (O.bytes_of opener.new) (O.faults opener.new) (K.written sink.new) (K.faults sink.new)) (outcome O.Src.left O.Src.faults result.status (rest_in result.end)) }
 {
-    let report = CheckReport {
-        layout: None,
-        rows: 0,
-    };
-    report_file(alloc, file, report, opener, sink)
+    check_opened(alloc, file, opener, sink)
 }
 
 // Writes the line of a query that is refused.
@@ -80,45 +78,88 @@ fn refuse_query<K: Sink>(alloc: Global, fault: QueryFault, sink: &mut K) -> Stat
     }
 }
 
-// Opens a file, and writes what is told of it.
-fn report_file<W: Report + Drop, O: Opener, K: Sink>(
+// Opens a file, and writes its rows that match.
+fn scan_opened<O: Opener, K: Sink>(
     alloc: Global,
     file: &str,
-    report: W,
+    expr: &Expr,
     opener: &mut O,
     sink: &mut K,
-) -> Ended<O>
-    requires heading { W.heading report ≡ None }
-    requires rows { W.rows report ≡ 0 }
-    ensures { ReportsFile file.now (W.behind report) (outside (O.bytes_of opener.old) (O.faults opener.old) (K.written sink.old) (K.faults sink.old)) (outside (O.bytes_of opener.new) (O.faults opener.new) (K.written sink.new) (K.faults sink.new)) (outcome O.Src.left O.Src.faults result.status result.rest) }
+) -> Reported<O>
+    ensures { ReportsFile file.now (λ steps. scan_text steps expr.now) (outside (O.bytes_of opener.old) (O.faults opener.old) (K.written sink.old) (K.faults sink.old)) (outside (O.bytes_of opener.new) (O.faults opener.new) (K.written sink.new) (K.faults sink.new)) (outcome O.Src.left O.Src.faults result.status (rest_in result.end)) }
 {
-    let Ok(line) = open_line(alloc, file) else {
-        return unopened(Status::Memory);
-    };
-    match opener.open_one(alloc, file) {
-        Ok(source) => {
-            let mut report = report;
-            let mut source = source;
-            let status = write_report(alloc, &mut report, &mut source, sink);
-            Ended {
-                status,
-                rest: Some(source),
-            }
+    match open_file(alloc, file, opener, sink) {
+        Ok((name, source)) => {
+            let (status, end) = scan_source(alloc, name, expr, source, sink);
+            let end = Some(end);
+            Reported { status, end }
         }
-        Err(OpenEnd::Failed) => {
-            say(sink, line.as_slice());
-            unopened(Status::OpenFault)
-        }
-        Err(OpenEnd::Memory) => unopened(Status::Memory),
+        Err(status) => unopened(status),
     }
 }
 
-// The end of a command that opened nothing.
-fn unopened<O: Opener>(status: Status) -> Ended<O>
-    ensures status { result.status ≡ status }
-    ensures rest { result.rest ≡ None }
+// Opens a file, and writes its layouts.
+fn check_opened<O: Opener, K: Sink>(
+    alloc: Global,
+    file: &str,
+    opener: &mut O,
+    sink: &mut K,
+) -> Reported<O>
+    ensures { ReportsFile file.now check_text (outside (O.bytes_of opener.old) (O.faults opener.old) (K.written sink.old) (K.faults sink.old)) (outside (O.bytes_of opener.new) (O.faults opener.new) (K.written sink.new) (K.faults sink.new)) (outcome O.Src.left O.Src.faults result.status (rest_in result.end)) }
 {
-    Ended { status, rest: None }
+    match open_file(alloc, file, opener, sink) {
+        Ok((name, source)) => {
+            let (status, end) = check_source(alloc, name, source, sink);
+            let end = Some(end);
+            Reported { status, end }
+        }
+        Err(status) => unopened(status),
+    }
+}
+
+/// The file's name and its source, or how a command ends that could not open it, whose line is then written.
+pub fn open_file<O: Opener, K: Sink>(
+    alloc: Global,
+    file: &str,
+    opener: &mut O,
+    sink: &mut K,
+) -> Result<(Bytes, O::Src), Status>
+    ensures left { IfOk result (λ opened. O.Src.left opened.1 ≡ O.bytes_of opener.old file.now) }
+    ensures fresh { IfOk result (λ opened. O.Src.faults opened.1 ≡ 0) }
+    ensures opens { OnOk result (O.faults opener.new ≡ O.faults opener.old) }
+    ensures same { Agree (O.bytes_of opener.new) (O.bytes_of opener.old) }
+    ensures written { OnOk result (K.written sink.new ≡ K.written sink.old) }
+    ensures writes { OnOk result (K.faults sink.new ≡ K.faults sink.old) }
+    ensures unopened { IfErr result (λ status. (text : Answers LogStep → List ℕ) → ReportsFile file.now text (outside (O.bytes_of opener.old) (O.faults opener.old) (K.written sink.old) (K.faults sink.old)) (outside (O.bytes_of opener.new) (O.faults opener.new) (K.written sink.new) (K.faults sink.new)) (outcome O.Src.left O.Src.faults status None)) }
+{
+    let Ok((name, line)) = name_and_line(alloc, file) else {
+        return Err(Status::Memory);
+    };
+    match opener.open_one(alloc, file) {
+        Ok(source) => Ok((name, source)),
+        Err(OpenEnd::Failed) => {
+            say(sink, line.as_slice());
+            Err(Status::OpenFault)
+        }
+        Err(OpenEnd::Memory) => Err(Status::Memory),
+    }
+}
+
+// The name of a file, and the line that says that it could not be opened.
+fn name_and_line(alloc: Global, file: &str) -> Result<(Bytes, Bytes), AllocError>
+    ensures { IfOk result (λ texts. texts.1 ≡ open_line file.now) }
+{
+    let mut name = Bytes::new(alloc);
+    name.append(file.as_bytes())?;
+    Ok((name, open_line(alloc, file)?))
+}
+
+// The end of a command that opened nothing.
+fn unopened<O: Opener>(status: Status) -> Reported<O>
+    ensures status { result.status ≡ status }
+    ensures end { result.end ≡ None }
+{
+    Reported { status, end: None }
 }
 
 // Writes a line whose failing changes no status.

@@ -1,6 +1,6 @@
 //! The commands over files and sinks in memory.
-use crate::status::Status;
 use crate::top::run_still;
+use input_report::Status;
 use std::alloc::{AllocError, Global};
 use std::test::Fail;
 use vast_io::{File, Files, MemOpener, MemSink, Source};
@@ -85,7 +85,7 @@ fn done(
 
 #[test]
 fn scan_writes_the_rows_that_match(rt: HostRuntime) -> Result<(), Fail> {
-    let rows: [(&[u8], &str, Status, &[u8]); 8] = [
+    let rows: [(&[u8], &str, Status, &[u8]); 9] = [
         (ANN, "name == \"ann\"", Status::Done, b"d\tann\tA\t3\n"),
         (ANN, "n == 3", Status::Done, b"d\tann\tA\t3\n"),
         (ANN, "n == 4", Status::Done, b""),
@@ -98,6 +98,12 @@ fn scan_writes_the_rows_that_match(rt: HostRuntime) -> Result<(), Fail> {
             "h in 10.0.0.0/8",
             Status::Done,
             b"a\t10.255.255.255\na\t10.0.0.1\n",
+        ),
+        (
+            CONNECTIONS,
+            "id.resp_p == 53/udp",
+            Status::Done,
+            b"conn\t1300475168.853899\tC4J4Th3PJpwUYZZ6gc\t141.142.220.118\t43927/udp\t141.142.2.2\t53/udp\tudp\t-\t0.000435\t38\t89\tSF\t-\t-\t0\tDd\t1\t66\t1\t117\t(empty)\n",
         ),
     ];
     for (bytes, query, status, text) in rows {
@@ -189,6 +195,25 @@ fn words_and_queries_are_refused_by_a_line(rt: HostRuntime) -> Result<(), Fail> 
 }
 
 #[test]
+fn steps_writes_the_replies_of_a_script(rt: HostRuntime) -> Result<(), Fail> {
+    let rows: [(&[u8], Status, &[u8]); 3] = [
+        (b"rows\n", Status::Done, b"rows 0\n"),
+        (b"source log\nrows", Status::Done, b"source 1\nrows 0\n"),
+        (
+            b"rows\nrow\nrows\n",
+            Status::ScriptFault,
+            b"rows 0\nscript line 2\n",
+        ),
+    ];
+    for (script, status, text) in rows {
+        let (ended, sink) = done(rt.alloc(), &["steps", "log"], script, &CALM)?;
+        assert_eq!(rt; ended, status);
+        assert_eq!(rt; sink.bytes(), text);
+    }
+    Ok(())
+}
+
+#[test]
 fn a_call_that_fails_is_told_by_its_status(rt: HostRuntime) -> Result<(), Fail> {
     let rows: [(u64, u64, u64, Status, &[u8]); 5] = [
         (0, NEVER, NEVER, Status::OpenFault, b"open log\n"),
@@ -237,7 +262,8 @@ fn left_at_the_first_match(alloc: Global, bytes: &[u8], piece: u32) -> Result<Ve
     let mut sink = MemSink::new(alloc, 200, 5, vec![in alloc; outside.write]?)?;
     let ended = run_still(alloc, &words, &mut opener, &mut sink);
     let mut left = Vec::new(alloc);
-    if let Some(source) = ended.rest {
+    let mut ends = ended.ends.into_items();
+    if let Some(source) = ends.pop().and_then(|end| end.rest) {
         let mut source = source;
         for _ in 0..bytes.len() {
             let mut into = [0; 100];

@@ -1,7 +1,7 @@
 //! The words of a command.
 ghost use Rattle.std.specs.Prelude.{◌≡◌, map, MatchOption, Some, None};
 ghost use Rattle.std.specs.String.{string_bytes};
-ghost use Rattle.vast.specs.Words.{command_of, check_words, scan_words, wanted_of};
+ghost use Rattle.vast.specs.Words.{command_of, file_words, scan_words, wanted_of};
 
 /// A command.
 #[derive(Clone, Copy)]
@@ -10,6 +10,8 @@ pub enum Command<'a> {
     Scan { file: &'a str, query: &'a str },
     /// The layouts of a file.
     Check { file: &'a str },
+    /// The replies of a script.
+    Steps { script: &'a str },
 }
 
 /// The command that the words are, if they are one.
@@ -17,17 +19,19 @@ pub fn read_words(words: &[String]) -> Option<Command<'_>>
     ensures { MatchOption result (command_of (map string_bytes words.now) ≡ None) (λ command. command_of (map string_bytes words.now) ≡ Some (wanted_of command)) }
 {
     match words {
-        [command, file] => read_check(command, file),
+        [command, file] => read_file(command, file),
         [command, file, query] => read_scan(command, file, query),
         _ => None,
     }
 }
 
-fn read_check<'a>(command: &str, file: &'a str) -> Option<Command<'a>>
-    ensures { MatchOption result (check_words command.now file.now ≡ None) (λ wanted. check_words command.now file.now ≡ Some (wanted_of wanted)) }
+fn read_file<'a>(command: &str, file: &'a str) -> Option<Command<'a>>
+    ensures { MatchOption result (file_words command.now file.now ≡ None) (λ wanted. file_words command.now file.now ≡ Some (wanted_of wanted)) }
 {
     if command.as_bytes() == b"check".as_slice() {
         Some(Command::Check { file })
+    } else if command.as_bytes() == b"steps".as_slice() {
+        Some(Command::Steps { script: file })
     } else {
         None
     }

@@ -1,5 +1,6 @@
 pub mod Fit
 pub mod Headings
+pub mod KeptColumns
 pub mod Kinds
 pub mod Layouts
 pub mod Nets

@@ -4,6 +4,7 @@ ghost use Rattle.vast_value.specs.Layouts.{layout_fault, columns_fault, column_f
 
 use crate::bytes::Bytes;
 use crate::column::Column;
+use crate::kept_columns::KeptColumns;
 use crate::sequence::Seq;
 use std::alloc::{AllocError, Global};
 
@@ -25,11 +26,11 @@ pub enum BadLayout {
     SameName { column: u32 },
 }
 
-/// A path of 1 to 2^24 bytes and 1 to 256 columns, whose names are not empty and differ.
+/// A path of 1 to 2^24 bytes and 1 to 256 columns, whose names are not empty and differ. Its copies may share its columns.
 #[derive(Debug, Drop)]
 pub struct Layout {
     path: Bytes,
-    columns: Columns,
+    columns: KeptColumns,
     ghost short: { length path ≤ 2 ^ 24 },
     ghost valid: { IsTrue (is_none (layout_fault path columns)) },
 }
@@ -46,7 +47,10 @@ impl Layout {
     {
         match layout_fault(path.as_slice(), columns.as_slice()) {
             Some(fault) => Err(fault),
-            None => Ok(Layout { path, columns }),
+            None => {
+                let columns = KeptColumns::own(columns);
+                Ok(Layout { path, columns })
+            }
         }
     }
 
@@ -64,7 +68,17 @@ impl Layout {
         self.columns.as_slice()
     }
 
-    /// An equal copy.
+    /// The same layout, whose copies share its columns from here on.
+    pub fn share(self, alloc: Global) -> Result<Layout, AllocError>
+        ensures { IfOk result (λ shared. shared ≡ self) }
+    {
+        let columns = self.columns.share(alloc)?;
+        let path = self.path;
+        Ok(Layout { path, columns })
+    }
+
+    /// An equal copy, whose own copies share its columns. Where this layout shares its columns the copy has them too, and
+    /// takes memory for its path alone.
     pub fn duplicate(&self, alloc: Global) -> Result<Layout, AllocError>
         ensures { IfOk result (λ copy. copy ≡ self.now) }
     {

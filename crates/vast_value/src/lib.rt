@@ -8,6 +8,7 @@ mod bytes;
 mod cell;
 mod column;
 mod fit;
+mod kept_columns;
 mod kind;
 mod layout;
 mod net;
@@ -81,6 +82,8 @@ mod tests {
         };
         let row = one_row(rt.alloc())?.duplicate(rt.alloc())?;
         assert!(rt; fits(&layout.duplicate(rt.alloc())?, &row));
+        let copy = layout.share(rt.alloc())?.duplicate(rt.alloc())?;
+        assert!(rt; fits(&copy.share(rt.alloc())?, &row));
         Ok(())
     }
 }

@@ -10,5 +10,6 @@ pub mod PieceLemmas
 pub mod PlainLemmas
 pub mod RowLawLemmas
 pub mod StandingLemmas
+pub mod StretchLemmas
 mod Vectors
 pub mod WrittenLemmas

@@ -115,7 +115,7 @@ cut_all : (places : List ℕ) (from : ℕ) (text : List ℕ) → cut_at places f
 cut_all [] from text = ap (λ (r : List ℕ). r ∷ []) (sym (take_all (length text - from) (drop from text) (omega (arith, length-drop from text))))
 cut_all (to ∷ more) from text = ap (λ (rs : List (List ℕ)). take (to - from) (drop from text) ∷ rs) (cut_all more (to + 1) text)
 
-length-cut_before : (places : List ℕ) (from : ℕ) (text : List ℕ) → length (cut_before places from text) ≡ length places
+pub length-cut_before : (places : List ℕ) (from : ℕ) (text : List ℕ) → length (cut_before places from text) ≡ length places
 length-cut_before [] from text = refl
 length-cut_before (to ∷ more) from text = ap suc (length-cut_before more (to + 1) text)
 
@@ -381,31 +381,11 @@ pub own_piece : (o : Option Cell) (p : Option (List ℕ)) (marks : Marks) (k : K
     → p ≡ Some raw → IsOwnPiece o p
 own_piece o p marks k raw usual own reads is = λ x at. is ∙ ap Some (sym (own marks usual x (reads ∙ at)))
 
--- one more piece is its cell's text
-pub own_more : (row : List Cell) (pieces : List (List ℕ)) (column : ℕ) → column < length row → column < length pieces
-    → map cell_text (take column row) ≡ take column pieces → IsOwnPiece (slice_get row column) (slice_get pieces column)
-    → map cell_text (take (column + 1) row) ≡ take (column + 1) pieces
-own_more row pieces column in_row in_pieces so_far own =
-    let x = get_or row column cell.Unset in
-    let raw = get_or pieces column [] in
-    let is : Some raw ≡ Some (cell_text x) = sym (slice_get-get_or pieces column [] in_pieces) ∙ own x (slice_get-get_or row column cell.Unset in_row) in
-    let same : raw ≡ cell_text x = cc in
-    map_more cell_text row column cell.Unset in_row
-    ∙ ap (λ (ts : List (List ℕ)). ts ++ cell_text x ∷ []) so_far ∙ ap (λ (t : List ℕ). take column pieces ++ t ∷ []) (sym same)
-    ∙ sym (take_more pieces column [] in_pieces)
-
 -- each piece behind a tab
 tabbed_more : (x : Cell) (row : List Cell) → flat_map (λ y. 9 ∷ cell_text y) (x ∷ row) ≡ 9 ∷ join_with_byte 9 (map cell_text (x ∷ row))
 tabbed_more x [] = ap (λ (t : List ℕ). 9 ∷ t) (append-nil (cell_text x))
 tabbed_more x (y ∷ row) = ap (λ (t : List ℕ). 9 ∷ (cell_text x ++ t)) (tabbed_more y row)
 
-tabbed_row : (row : List Cell) → 0 < length row → flat_map (λ y. 9 ∷ cell_text y) row ≡ 9 ∷ join_with_byte 9 (map cell_text row)
+pub tabbed_row : (row : List Cell) → 0 < length row → flat_map (λ y. 9 ∷ cell_text y) row ≡ 9 ∷ join_with_byte 9 (map cell_text row)
 tabbed_row [] some = absurd (omega arith)
 tabbed_row (x ∷ row) some = tabbed_more x row
-
--- a line whose pieces are its cells' texts is how its row is written
-pub line_written : (separator : ℕ) (line : List ℕ) (row : List Cell) → separator ≡ 9 → 0 < length row → map cell_text row ≡ pieces_of separator line
-    → 9 ∷ line ≡ flat_map (λ y. 9 ∷ cell_text y) row
-line_written separator line row tab some own =
-    ap (λ (t : List ℕ). 9 ∷ t) (sym (pieces_joined 9 line))
-    ∙ ap (λ (ts : List (List ℕ)). 9 ∷ join_with_byte 9 ts) (ap (λ (s : ℕ). pieces_of s line) (sym tab) ∙ sym own) ∙ sym (tabbed_row row some)

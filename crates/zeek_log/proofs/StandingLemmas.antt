@@ -90,16 +90,6 @@ module _ (places : List ℕ) (count : ℕ) where
 pub cell_past : (xs : List Cell) (column count : ℕ) → length xs ≡ count → count ≤ column → None ≡ slice_get xs column
 cell_past xs column count same past = sym (slice_get_past xs column (omega arith))
 
--- one more cell was written
-pub row_more : (row : List Cell) (before out now : List ℕ) (column : ℕ) → column < length row → out ≡ before ++ flat_map (λ x. 9 ∷ cell_text x) (take column row)
-    → ((x : Cell) → slice_get row column ≡ Some x → now ≡ out ++ 9 ∷ cell_text x) → now ≡ before ++ flat_map (λ x. 9 ∷ cell_text x) (take (column + 1) row)
-row_more row before out now column below so_far one =
-    let x = get_or row column cell.Unset in
-    let text : Cell → List ℕ = λ y. 9 ∷ cell_text y in
-    one x (slice_get-get_or row column cell.Unset below) ∙ ap (λ (t : List ℕ). t ++ text x) so_far
-    ∙ flat_map_more text before (take column row) x
-    ∙ ap (λ (xs : List Cell). before ++ flat_map text xs) (sym (take_more row column cell.Unset below))
-
 -- one more cell was put into the row
 pub cells_more : (row so_far : List Cell) (x : Cell) (column : ℕ) → column < length row → so_far ≡ take column row
     → Some x ≡ slice_get row column

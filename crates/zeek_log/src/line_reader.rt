@@ -1,6 +1,6 @@
 //! The lines of a log.
 ghost use Rattle.std.specs.Prelude.{◌≡◌, ◌<◌, ◌≤◌, ◌++◌, ◌∷◌, ℕ, List, Option, [], true, None, Some, Ok, length, slice_get, take, is_some, IfOk, IfSome, IsTrue, OnOk, MatchOption};
-ghost use Rattle.std.specs.List.{flat_map};
+ghost use Rattle.std.specs.List.{between, flat_map};
 ghost use Rattle.value_text.specs.Writing.{cell_text};
 ghost use Rattle.zeek_log.specs.Plain.{line_end};
 ghost use Rattle.zeek_log.specs.Standing.{IsPlainAt, behind_line, line_cells, next_state};
@@ -185,17 +185,21 @@ impl LineReader {
         plain_number(&self.known, self.block.as_slice(), places, count, column)
     }
 
-    /// Puts the cells of the plain line that is at the front of the bytes held behind what `out` holds, each as it is written
-    /// and behind a tab.
+    /// Puts cells of the plain line that is at the front of the bytes held behind what `out` holds, each as it is written
+    /// and behind a tab: those from one column on and before another.
     pub fn write_plain(
         &self,
         alloc: Global,
         places: &[u32],
         count: usize,
+        from: usize,
+        to: usize,
         out: &mut Bytes,
     ) -> Result<(), AllocError>
-        requires { IsPlainAt self.now.state self.now.held places.now count }
-        ensures { OnOk result (out.new ≡ out.old ++ flat_map (λ x. 9 ∷ cell_text x) (line_cells self.now.state (take (line_end places.now count) self.now.held))) }
+        requires plain { IsPlainAt self.now.state self.now.held places.now count }
+        requires order { from ≤ to }
+        requires within { to ≤ count }
+        ensures { OnOk result (out.new ≡ out.old ++ flat_map (λ x. 9 ∷ cell_text x) (between from to (line_cells self.now.state (take (line_end places.now count) self.now.held)))) }
     {
         write_plain(
             alloc,
@@ -203,6 +207,8 @@ impl LineReader {
             self.block.as_slice(),
             places,
             count,
+            from,
+            to,
             out,
         )
     }

@@ -1,6 +1,6 @@
 //! The cells of a line that is seen to be a row.
-ghost use Rattle.std.specs.Prelude.{◌≡◌, ◌≢◌, ◌+◌, ◌-◌, ◌<◌, ◌≤◌, ◌++◌, ◌∷◌, None, Some, codes, get_or, length, map, slice_get, take, IfOk, IfSome, IsTrue, OnOk};
-ghost use Rattle.std.specs.List.{flat_map};
+ghost use Rattle.std.specs.Prelude.{◌≡◌, ◌≢◌, ◌+◌, ◌-◌, ◌<◌, ◌≤◌, ◌++◌, ◌∷◌, None, Some, codes, drop, get_or, length, map, slice_get, take, IfOk, IfSome, IsTrue, OnOk};
+ghost use Rattle.std.specs.List.{between, flat_map};
 ghost use Rattle.vast_value.specs.declared.cell.Cell.{Cell};
 ghost use Rattle.vast_value.specs.declared.kind.Kind.{Kind};
 ghost use Rattle.plain_cells.specs.Own.{IsOwnText};
@@ -20,39 +20,49 @@ use vast_value::{Bytes, Cell, Elem, Kind, PlainNumber, Row};
 /// So many bytes behind a cell may be looked at with it.
 const SPARE: usize = 32;
 
-/// Puts the cells of the plain line that is at the front of the bytes held behind what `out` holds, each as it is written
-/// and behind a tab.
+/// Puts cells of the plain line that is at the front of the bytes held behind what `out` holds, each as it is written and
+/// behind a tab: those from one column on and before another.
 pub fn write_plain(
     alloc: Global,
     known: &Known,
     held: &[u8],
     places: &[u32],
     count: usize,
+    from: usize,
+    to: usize,
     out: &mut Bytes,
 ) -> Result<(), AllocError>
-    requires { IsPlain (told_of known.now) held.now places.now count }
-    ensures { OnOk result (out.new ≡ out.old ++ flat_map (λ x. 9 ∷ cell_text x) (cells_or_none (row_in (told_of known.now) (take (line_end places.now count) held.now)))) }
+    requires plain { IsPlain (told_of known.now) held.now places.now count }
+    requires order { from ≤ to }
+    requires within { to ≤ count }
+    ensures { OnOk result (out.new ≡ out.old ++ flat_map (λ x. 9 ∷ cell_text x) (between from to (cells_or_none (row_in (told_of known.now) (take (line_end places.now count) held.now))))) }
 {
-    if are_usual(&known.marks) {
-        if known.separator == b'\t' && are_own(known, held, places, count) {
-            return write_line(held, places[count - 1] as usize, out);
-        }
-        return write_own(alloc, known, held, places, count, out);
+    if from == to {
+        return Ok(());
     }
-    for column in 0..count {
+    if are_usual(&known.marks) {
+        if known.separator == b'\t' && are_own(known, held, places, count, from, to) {
+            return write_stretch(held, start_of(places, from), end_of(places, to - 1), out);
+        }
+        return write_own(alloc, known, held, places, count, from, to, out);
+    }
+    for column in from..to {
         let cell = plain_cell(alloc, known, held, places, count, column)?;
         write_behind_tab(&cell, out)?;
     }
     Ok(())
 }
 
-/// Whether each cell of the plain line that is at the front of the bytes held is seen to stand there as it is written.
-fn are_own(known: &Known, held: &[u8], places: &[u32], count: usize) -> bool
+/// Whether each of these cells of the plain line that is at the front of the bytes held is seen to stand there as it is
+/// written.
+fn are_own(known: &Known, held: &[u8], places: &[u32], count: usize, from: usize, to: usize) -> bool
     requires plain { IsPlain (told_of known.now) held.now places.now count }
     requires usual { AreUsual known.now.marks }
-    ensures { IsTrue result → map cell_text (cells_or_none (row_in (told_of known.now) (take (line_end places.now count) held.now))) ≡ pieces_of known.now.separator (take (line_end places.now count) held.now) }
+    requires order { from ≤ to }
+    requires within { to ≤ count }
+    ensures { IsTrue result → map cell_text (between from to (cells_or_none (row_in (told_of known.now) (take (line_end places.now count) held.now)))) ≡ between from to (pieces_of known.now.separator (take (line_end places.now count) held.now)) }
 {
-    for column in 0..count {
+    for column in from..to {
         if !is_own_at(known, held, places, count, column) {
             return false;
         }
@@ -73,14 +83,16 @@ fn is_own_at(known: &Known, held: &[u8], places: &[u32], count: usize, column: u
     cell.text.len() >= cell.count + SPARE && is_own(cell.kind, cell.text, cell.count)
 }
 
-/// Puts a tab and the first so many bytes behind what `out` holds.
-fn write_line(held: &[u8], count: usize, out: &mut Bytes) -> Result<(), AllocError>
-    requires { count ≤ length held.now }
-    ensures { OnOk result (out.new ≡ out.old ++ 9 ∷ take count held.now) }
+/// Puts a tab and the bytes from one place on and before another behind what `out` holds.
+fn write_stretch(held: &[u8], from: usize, to: usize, out: &mut Bytes) -> Result<(), AllocError>
+    requires order { from ≤ to }
+    requires within { to ≤ length held.now }
+    ensures { OnOk result (out.new ≡ out.old ++ 9 ∷ take (to - from) (drop from held.now)) }
 {
-    let (line, _) = held.split_at(count);
+    let (_, behind) = held.split_at(from);
+    let (stretch, _) = behind.split_at(to - from);
     out.push(b'\t')?;
-    out.append(line)
+    out.append(stretch)
 }
 
 /// The same where the log has the usual marks: a cell's bytes as they stand, where that is how it is written.
@@ -90,13 +102,17 @@ fn write_own(
     held: &[u8],
     places: &[u32],
     count: usize,
+    from: usize,
+    to: usize,
     out: &mut Bytes,
 ) -> Result<(), AllocError>
     requires plain { IsPlain (told_of known.now) held.now places.now count }
     requires usual { AreUsual known.now.marks }
-    ensures { OnOk result (out.new ≡ out.old ++ flat_map (λ x. 9 ∷ cell_text x) (cells_or_none (row_in (told_of known.now) (take (line_end places.now count) held.now)))) }
+    requires order { from ≤ to }
+    requires within { to ≤ count }
+    ensures { OnOk result (out.new ≡ out.old ++ flat_map (λ x. 9 ∷ cell_text x) (between from to (cells_or_none (row_in (told_of known.now) (take (line_end places.now count) held.now))))) }
 {
-    for column in 0..count {
+    for column in from..to {
         write_one(alloc, known, held, places, count, column, out)?;
     }
     Ok(())

@@ -1,6 +1,6 @@
 //! A reader that stands at a line.
 ghost use Rattle.std.specs.Prelude.{◌≡◌, ℕ, ◌<◌, ◌≤◌, ◌++◌, ◌∷◌, List, [], Option, None, Some, Ok, false, length, is_some, slice_get, IfOk, IfSome, OnOk, IsTrue, MatchOption};
-ghost use Rattle.std.specs.List.{flat_map};
+ghost use Rattle.std.specs.List.{between, flat_map};
 ghost use Rattle.value_text.specs.Writing.{cell_text};
 ghost use Rattle.vast_value.specs.Headings.{heading_of};
 ghost use Rattle.vast_value.specs.Views.{number_cell};
@@ -186,14 +186,43 @@ impl ZeekReader {
         }
     }
 
+    /// How many cells the row at which the reader stands has, 0 where it stands at none.
+    pub fn count(&self) -> usize
+        ensures { result ≡ length self.now.row }
+    {
+        match &self.current {
+            Current::Nowhere => 0,
+            Current::Made(row) => row.as_slice().len(),
+            Current::Plain(count) => *count,
+        }
+    }
+
     /// Puts the cells of the row at which the reader stands behind what `out` holds, each as it is written and behind a tab.
     pub fn write_row(&self, alloc: Global, out: &mut Bytes) -> Result<(), AllocError>
         ensures { OnOk result (out.new ≡ out.old ++ flat_map (λ x. 9 ∷ cell_text x) self.now.row) }
     {
+        self.write_cells(alloc, 0, self.count(), out)
+    }
+
+    /// The same of the cells from one column on and before another, counted from 0.
+    pub fn write_cells(
+        &self,
+        alloc: Global,
+        from: usize,
+        to: usize,
+        out: &mut Bytes,
+    ) -> Result<(), AllocError>
+        requires order { from ≤ to }
+        requires within { to ≤ length self.now.row }
+        ensures { OnOk result (out.new ≡ out.old ++ flat_map (λ x. 9 ∷ cell_text x) (between from to self.now.row)) }
+    {
         match &self.current {
             Current::Nowhere => Ok(()),
-            Current::Made(row) => write_cells(row.as_slice(), out),
-            Current::Plain(count) => self.lines.write_plain(alloc, &self.places, *count, out),
+            Current::Made(row) => write_made(&row.as_slice()[from..to], out),
+            Current::Plain(count) => {
+                self.lines
+                    .write_plain(alloc, &self.places, *count, from, to, out)
+            }
         }
     }
 }
@@ -210,7 +239,7 @@ fn pass_current(lines: &mut LineReader, current: &mut Current, places: &[u32])
     *current = Current::Nowhere;
 }
 
-fn write_cells(cells: &[Cell], out: &mut Bytes) -> Result<(), AllocError>
+fn write_made(cells: &[Cell], out: &mut Bytes) -> Result<(), AllocError>
     ensures { OnOk result (out.new ≡ out.old ++ flat_map (λ x. 9 ∷ cell_text x) cells.now) }
 {
     for cell in cells {

@@ -8,26 +8,25 @@ use Rattle.address_index.proofs.net.NetIndex.covers.Goals as goal
 pub loop-at-init : goal.loop-at-init
 loop-at-init g c =
     let all = c.in_ok-agree.ensures in
-    let even = ap length all ∙ c.args.self.now.even in
+    let even = ap length all in
     record {
       agree_even = even;
       rows_even = c.in_ok-rows.ensures.rows ∙ even;
-      agree = λ keys h. agree_none keys c.args.self.now.addresses.table c.args.self.now.lengths c.args.base _ (omega (arith, c.ranges.base.fits)) h all;
-      rows = λ keys h. covers_none keys c.args.self.now.addresses.table c.args.self.now.lengths c.args.base _ _ h (agree_none keys c.args.self.now.addresses.table c.args.self.now.lengths c.args.base _ (omega (arith, c.ranges.base.fits)) h all) c.in_ok-rows.ensures;
+      agree = λ keys h. agree_none keys c.args.self.now.table c.args.base _ (omega (arith, c.ranges.base.fits)) h all;
+      rows = λ keys h. covers_none keys c.args.self.now.table c.args.base _ _ h (agree_none keys c.args.self.now.table c.args.base _ (omega (arith, c.ranges.base.fits)) h all) c.in_ok-rows.ensures;
     }
 
 pub loop-at-preserved : goal.loop-at-preserved
 loop-at-preserved g c =
-    let table = c.args.self.now.addresses.table in
-    let lengths = c.args.self.now.lengths in
+    let table = c.args.self.now.table in
     let inside : c.loop-at.at < 128 = omega arith in
     let even = c.in_ok-agree-2.ensures.rows ∙ c.loop-at.invariant.agree_even in
     let here_even = c.in_ok-here.ensures.rows ∙ even in
     record {
       agree_even = even;
       rows_even = ap length c.in_ok-rows-2.ensures ∙ length-bitwise _ _ _ (c.loop-at.invariant.rows_even ∙ sym here_even) ∙ c.loop-at.invariant.rows_even;
-      agree = λ keys h. agree_more keys table lengths c.args.base c.loop-at.at _ _ inside h (c.loop-at.invariant.agree keys h) c.in_ok-agree-2.ensures;
-      rows = λ keys h. covers_more keys table lengths c.args.base c.loop-at.at _ _ _ _ h (agree_more keys table lengths c.args.base c.loop-at.at _ _ inside h (c.loop-at.invariant.agree keys h) c.in_ok-agree-2.ensures) c.in_ok-here.ensures (c.loop-at.invariant.rows keys h) c.in_ok-rows-2.ensures;
+      agree = λ keys h. agree_more keys table c.args.base c.loop-at.at _ _ inside h (c.loop-at.invariant.agree keys h) c.in_ok-agree-2.ensures;
+      rows = λ keys h. covers_more keys table c.args.base c.loop-at.at _ _ _ _ h (agree_more keys table c.args.base c.loop-at.at _ _ inside h (c.loop-at.invariant.agree keys h) c.in_ok-agree-2.ensures) c.in_ok-here.ensures (c.loop-at.invariant.rows keys h) c.in_ok-rows-2.ensures;
     }
 
 pub returns-clause-keys : goal.returns-clause-keys

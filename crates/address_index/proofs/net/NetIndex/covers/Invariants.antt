@@ -9,8 +9,8 @@ abbrev pub invariant-loop-at : goal.invariant-loop-at
 invariant-loop-at g l =
     let bits = g.B.Bits.bits in
     record {
-      agree_even : length (bits l.agree) ≡ length l.self.lengths.present;
-      rows_even : length (bits l.rows) ≡ length l.self.lengths.present;
-      agree : (keys : List (Option Subnet)) → HoldsNets l.self.addresses.table l.self.lengths keys → bits l.agree ≡ answers (λ net. within l.base l.at net.base) keys;
-      rows : (keys : List (Option Subnet)) → HoldsNets l.self.addresses.table l.self.lengths keys → bits l.rows ≡ answers (net_covers l.base l.at) keys;
+      agree_even : length (bits l.agree) ≡ length l.self.table.present;
+      rows_even : length (bits l.rows) ≡ length l.self.table.present;
+      agree : (keys : List (Option Subnet)) → HoldsNets l.self.table keys → bits l.agree ≡ answers (λ net. within l.base l.at net.base) keys;
+      rows : (keys : List (Option Subnet)) → HoldsNets l.self.table keys → bits l.rows ≡ answers (net_covers l.base l.at) keys;
     }

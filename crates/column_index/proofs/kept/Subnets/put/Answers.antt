@@ -7,5 +7,5 @@ use Rattle.column_index.proofs.kept.Subnets.put.Goals as goal
 
 pub returns-clause-stands : goal.returns-clause-stands
 returns-clause-stands c = λ cells long s.
-    covers_put (HoldsNets c.args.self.now.index.addresses.table c.args.self.now.index.lengths) (HoldsNets c.in_ok-self.field-0.addresses.table c.in_ok-self.field-0.lengths) subnet_key cells c.args.row (One c.args.value.now) (subnet c.subnet_of-net.result.base c.subnet_of-net.result.bits) long
-    (ap (λ (k : Subnet). Some k) (sym c.subnet_of-net.ensures)) (λ held h. c.in_ok-self.ensures.keys held (rw c.replace-index.ensures.value h)) s
+    covers_put (HoldsNets c.args.self.now.index.table) (HoldsNets c.put.new.self.table) subnet_key cells c.args.row (One c.args.value.now) (subnet c.subnet_of-net.result.base c.subnet_of-net.result.bits) long
+    (ap (λ (k : Subnet). Some k) (sym c.subnet_of-net.ensures)) c.in_ok-put.ensures.keys s

@@ -1,0 +1,3 @@
+pub mod GoingLemmas
+pub mod ReportLemmas
+mod Vectors

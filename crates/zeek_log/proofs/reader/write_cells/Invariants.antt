@@ -1,7 +1,0 @@
-use Rattle.std.proofs.Common.{◌≡◌, ◌++◌, ◌∷◌, take}
-use Rattle.std.specs.List.{flat_map}
-use Rattle.value_text.specs.Writing.{cell_text}
-use Rattle.zeek_log.proofs.reader.write_cells.Given as goal
-
-abbrev pub invariant-loop-cell : goal.invariant-loop-cell
-invariant-loop-cell l = l.out ≡ l.initial.out ++ flat_map (λ x. 9 ∷ cell_text x) (take l.cell-index l.cells)
