@@ -5,8 +5,8 @@ _vast() {
     local word=${COMP_WORDS[COMP_CWORD]}
     COMPREPLY=()
     if [ "$COMP_CWORD" -eq 1 ]; then
-        mapfile -t COMPREPLY < <(compgen -W 'scan check' -- "$word")
-    elif [ "$COMP_CWORD" -eq 2 ] && [[ ${COMP_WORDS[1]} == scan || ${COMP_WORDS[1]} == check ]]; then
+        mapfile -t COMPREPLY < <(compgen -W 'scan check steps' -- "$word")
+    elif [ "$COMP_CWORD" -eq 2 ] && [[ " scan check steps " == *" ${COMP_WORDS[1]} "* ]]; then
         compopt -o filenames 2>/dev/null
         mapfile -t COMPREPLY < <(compgen -f -- "$word")
     fi
