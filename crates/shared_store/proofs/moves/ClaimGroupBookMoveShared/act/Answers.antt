@@ -1,0 +1,11 @@
+use Rattle.std.proofs.Common.{◌≡◌, List, [], ◌∷◌, ◌++◌, Result, Ok, Err, IfOk, append-nil, sym, refl, subst, rules}
+use Rattle.std.specs.declared.alloc.AllocError.{AllocError}
+use Rattle.event_history.specs.Histories.{past}
+use Rattle.event_history.specs.Legal.{Legal}
+use Rattle.shared_store.proofs.TurnLemmas.{claimed_group}
+use Rattle.shared_store.proofs.moves.ClaimGroupBookMoveShared.act.Goals as goal
+
+pub returns : goal.returns
+returns c =
+    claimed_group c.args.state.now.store.limits c.args.state.now.store.history c.args._seat c.claim_group.result c.entries.ensures.legal
+    c.claim_group.ensures.step c.claim_group.ensures.given c.claim_group.ensures.merged c.claim_group.ensures.mergeable

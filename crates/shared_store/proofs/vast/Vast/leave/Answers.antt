@@ -1,0 +1,5 @@
+use Rattle.shared_store.proofs.TurnLemmas.{queries_stay}
+use Rattle.shared_store.proofs.vast.Vast.leave.Goals as goal
+
+pub turn-requires-clause-needs : goal.turn-requires-clause-needs
+turn-requires-clause-needs g c f framed = queries_stay c.given_stays.ensures f (g.P.Turner.standing c.args.pass.now).seen c.args.query c.requires.known
