@@ -1,1 +1,3 @@
-pub mod TurnLemmas
+pub mod Crosses
+mod ExprCrosses
+mod TurnLemmas

@@ -4,7 +4,7 @@ ghost use Rattle.turn_book.specs.Seats.{book_id, pass_book, root_book};
 
 use super::*;
 use event_batch::{Packed, Steps, unpack};
-use history_core::{AcceptEnd, Accepted, LeaveEnd, Limits, Mode, PublishEnd, RegisterEnd, Store};
+use history_core::{AcceptEnd, Accepted, LeaveEnd, Limits, Mode, RegisterEnd, Store};
 use partition::{Fragment, Sealed};
 use query_meaning::Expr;
 use sqlite_items::Items;
@@ -93,5 +93,87 @@ fn a_batch_that_a_pass_accepted_is_claimed_once(rt: HostRuntime) -> Result<(), F
     };
     assert_eq!(rt; claim.batch, 0);
     assert!(rt; vast.claim(&rt, &mut pass)?.is_none());
+    Ok(())
+}
+
+#[test]
+fn a_claim_lost_with_its_pass_is_indexed_behind_the_close(rt: HostRuntime) -> Result<(), Fail> {
+    let alloc = rt.alloc();
+    let (vast, mut root) = Vast::new(alloc, Store::new(alloc, LIMITS))?;
+    let mut pass = vast.split(&mut root)?;
+    let accepted = accept(&rt, alloc, &vast, &mut pass)?;
+    assert_eq!(rt; accepted, Ok(Accepted { batch: 0, first: 0 }));
+    assert!(rt; vast.claim(&rt, &mut pass)?.is_some());
+    vast.join(&mut root, pass);
+    assert!(rt; vast.claim(&rt, &mut root)?.is_none());
+    let store = vast.close(root);
+    assert_eq!(rt; (store.batches(), store.indexed(0)), (1, false));
+    assert!(rt; store.claim_for(0).is_ok());
+    Ok(())
+}
+
+// Merges and publishes the next group, and says which; or tells that there was none.
+fn seal_next<R: Wait>(
+    rt: &R,
+    alloc: Global,
+    vast: &Vast,
+    pass: &mut Pass,
+) -> Result<Option<u64>, Fail>
+    requires { pass_book pass.old ≡ book_id vast.now.book }
+    ensures { pass_book pass.new ≡ book_id vast.now.book }
+{
+    let Some(group) = vast.claim_group(rt, pass)? else {
+        return Ok(None);
+    };
+    let number = group.number;
+    let sealed = Arc::new(alloc, Sealed::merge(alloc, group.fragments.as_slice())?)?;
+    match vast.publish_group(rt, pass, group, sealed) {
+        Ok(()) => Ok(Some(number)),
+        Err(_) => Err("not sealed".into()),
+    }
+}
+
+#[test]
+fn batches_are_indexed_and_sealed_once_and_no_more_than_fit(rt: HostRuntime) -> Result<(), Fail> {
+    let alloc = rt.alloc();
+    let (vast, mut root) = Vast::new(alloc, Store::new(alloc, LIMITS))?;
+    let mut pass = vast.split(&mut root)?;
+    for batch in [0, 1] {
+        let first = batch;
+        assert_eq!(rt; accept(&rt, alloc, &vast, &mut pass)?, Ok(Accepted { batch, first }));
+        let indexed = index_next::<Brand, _>(&rt, alloc, &vast, &mut pass, Blank::new(1))?;
+        assert_eq!(rt; indexed, Some(batch));
+    }
+    let full = AcceptEnd::Full { have: 2, limit: 2 };
+    assert_eq!(rt; accept(&rt, alloc, &vast, &mut pass)?, Err(full));
+    assert_eq!(rt; seal_next(&rt, alloc, &vast, &mut pass)?, Some(0));
+    assert_eq!(rt; seal_next(&rt, alloc, &vast, &mut pass)?, None);
+    Ok(())
+}
+
+#[test]
+fn a_query_is_told_by_another_pass_until_it_leaves(rt: HostRuntime) -> Result<(), Fail> {
+    let alloc = rt.alloc();
+    let (vast, mut root) = Vast::new(alloc, Store::new(alloc, LIMITS))?;
+    let all = Expr::And(Items::new(alloc));
+    let Ok(session) = vast.register(&rt, &mut root, Mode::Coming, all) else {
+        return Err("not registered".into());
+    };
+    let query = session.query();
+    let more = Expr::And(Items::new(alloc));
+    let Err((_, end)) = vast.register(&rt, &mut root, Mode::Past, more) else {
+        return Err("registered".into());
+    };
+    assert_eq!(rt; end, RegisterEnd::TooMany { limit: 1 });
+    let mut writes = vast.split(&mut root)?;
+    let mut reads = vast.split(&mut root)?;
+    assert!(rt; accept(&rt, alloc, &vast, &mut writes)?.is_ok());
+    let Ok(taken) = vast.take(&rt, &mut reads, session) else {
+        return Err("not taken".into());
+    };
+    assert_eq!(rt; (taken.query(), taken.live()), (1, (0, 1)));
+    assert_eq!(rt; vast.leave(&rt, &mut reads, query), Ok(()));
+    assert_eq!(rt; vast.leave(&rt, &mut reads, query), Err(LeaveEnd::Left { query: 1 }));
+    assert!(rt; vast.take(&rt, &mut reads, taken.settle()).is_err());
     Ok(())
 }
