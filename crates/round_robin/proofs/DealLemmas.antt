@@ -1,5 +1,5 @@
 -- Lists that are dealt out, shares of them, and hands of which one gets or gives a member.
-use Rattle.std.proofs.Common.{◌≡◌, ℕ, zero, suc, ◌+◌, ◌*◌, ◌/◌, ◌%◌, ◌<◌, ◌≤◌, List, [], ◌∷◌, ◌++◌, length, get_or, set, map, reverse, refl, ap, ap₂, sym, ◌∙◌, subst, add-one, add-zero, zero-add, inl, inr, arith}
+use Rattle.std.proofs.Common.{◌≡◌, ℕ, zero, suc, ◌+◌, ◌*◌, ◌/◌, ◌%◌, ◌<◌, ◌≤◌, List, [], ◌∷◌, ◌++◌, length, get_or, set, map, reverse, refl, ap, ap₂, sym, ◌∙◌, add-one, add-zero, zero-add, inl, inr, arith}
 use Rattle.std.proofs.Math.Dec.{eqb}
 use Rattle.std.specs.List.{All}
 use Rattle.std.proofs.lemmas.Bool.{cases_eq, cond-true, cond-false, eq-eqb, ne_eqb}
@@ -74,7 +74,7 @@ same_from n some k [] (y ∷ ys) long same = absurd (omega arith)
 same_from n some k (x ∷ xs) [] long same = absurd (omega arith)
 same_from n some k (x ∷ xs) (y ∷ ys) long same =
     let first : x ∷ dealt n (k % n) (k + 1) xs ≡ y ∷ dealt n (k % n) (k + 1) ys =
-      sym (next_here n (k % n) k x xs refl) ∙ (same (k % n) (mod_below k n some) ∙ next_here n (k % n) k y ys refl) in
+    sym (next_here n (k % n) k x xs refl) ∙ (same (k % n) (mod_below k n some) ∙ next_here n (k % n) k y ys refl) in
     let head : x ≡ y = cc in
     ap₂ (λ z zs. z ∷ zs) head (same_from n some (k + 1) xs ys (omega arith) (λ w l. elim (cases_eq (k % n) w) [
       | inl here ↦

@@ -6,6 +6,7 @@ mod laws;
 mod room;
 
 pub use dealing::{collect, deal};
+pub use laws::{hands_get_their_share, hands_tell_the_list};
 pub use room::{hands, share_of};
 
 #[cfg(test)]

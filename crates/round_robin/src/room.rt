@@ -18,14 +18,14 @@ pub fn share_of(hands: usize, hand: usize, count: usize) -> usize
 }
 
 /// So many empty hands, each with room for its share of `count` items.
-pub fn hands<T: Drop>(alloc: Global, number: usize, count: usize) -> Result<Vec<Vec<T>>, AllocError>
-    ensures len { IfOk result (λ made. length made.items ≡ number) }
-    ensures empty { IfOk result (λ made. (w : ℕ) (d : _) → w < number → (slice_index_or made.items w d).items ≡ []) }
-    ensures room { IfOk result (λ made. (w : ℕ) (d : _) → w < number → share number w count ≤ vec_capacity (slice_index_or made.items w d)) }
+pub fn hands<T: Drop>(alloc: Global, hands: usize, count: usize) -> Result<Vec<Vec<T>>, AllocError>
+    ensures len { IfOk result (λ made. length made.items ≡ hands) }
+    ensures empty { IfOk result (λ made. (w : ℕ) (d : _) → w < hands → (slice_index_or made.items w d).items ≡ []) }
+    ensures room { IfOk result (λ made. (w : ℕ) (d : _) → w < hands → share hands w count ≤ vec_capacity (slice_index_or made.items w d)) }
 {
-    let mut made = Vec::with_capacity(alloc, number)?;
-    for hand in 0..number {
-        let room = share_of(number, hand, count);
+    let mut made = Vec::with_capacity(alloc, hands)?;
+    for hand in 0..hands {
+        let room = share_of(hands, hand, count);
         made.push_reserved(Vec::with_capacity(alloc, room)?);
     }
     Ok(made)

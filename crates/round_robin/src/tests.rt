@@ -27,17 +27,17 @@ fn shown(alloc: Global, hands: &[Vec<char>]) -> Result<String, AllocError> {
 }
 
 // What the hands get, and what comes back.
-#[tactic(auto, using(crate::proofs::DealLemmas::length_dealt))]
 fn there_and_back(alloc: Global, items: &str, number: usize) -> Result<(String, String), Fail>
     requires { 0 < number }
 {
     let items: Vec<char> = items.chars().collect(alloc)?;
     let count = items.len();
-    let mut hands = hands(alloc, number, count)?;
-    deal(items, &mut hands);
-    let dealt = shown(alloc, &hands)?;
+    let mut made = hands(alloc, number, count)?;
+    let hands = made.as_mut_slice();
+    deal(items, hands);
+    let dealt = shown(alloc, hands)?;
     let out = Vec::with_capacity(alloc, count)?;
-    let back = collect(&mut hands, count, out);
+    let back = collect(hands, count, out);
     let back: String = back.into_iter().collect(alloc)?;
     Ok((dealt, back))
 }

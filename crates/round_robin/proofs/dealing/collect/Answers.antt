@@ -1,7 +1,7 @@
-use Rattle.std.proofs.Common.{◌≡◌, ℕ, ◌+◌, ◌-◌, ◌%◌, ◌<◌, ◌++◌, ◌∷◌, [], List, Vec, Global, length, get_or, set, reverse, vec_capacity, ap, sym, refl, ◌∙◌, arith}
+use Rattle.std.proofs.Common.{◌≡◌, ℕ, ◌+◌, ◌-◌, ◌%◌, ◌<◌, ◌++◌, ◌∷◌, [], List, Vec, Global, length, get_or, set, reverse, ap, refl, ◌∙◌, arith}
 use Rattle.std.proofs.lemmas.List.{length-append}
 use Rattle.std.proofs.lemmas.Nat.{mod_below}
-use Rattle.round_robin.specs.Dealing.{dealt, share}
+use Rattle.round_robin.specs.Dealing.{dealt}
 use Rattle.round_robin.proofs.DealLemmas.{some_share, hands_taken, shares_taken, reverse_last}
 use Rattle.round_robin.proofs.dealing.collect.Goals as goal
 

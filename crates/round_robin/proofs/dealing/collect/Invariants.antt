@@ -6,6 +6,6 @@ abbrev pub invariant-loop-at : goal.invariant-loop-at
 invariant-loop-at g l = record {
   counted : length l.out.items + l.at ≡ l.count;
   room : l.count ≤ vec_capacity l.out;
-  shares : (w : ℕ) (d : _) → w < length l.hands → length (get_or l.hands w d).items ≡ share l.all w l.at;
-  dealt : (w : ℕ) (d : _) → w < length l.hands → (get_or l.hands w d).items ++ dealt l.all w l.at (reverse l.out.items) ≡ (get_or l.fn.hands w d).items;
+  shares : (w : ℕ) (d : _) → w < length l.hands → length (get_or l.hands w d).items ≡ share l.number w l.at;
+  dealt : (w : ℕ) (d : _) → w < length l.hands → (get_or l.hands w d).items ++ dealt l.number w l.at (reverse l.out.items) ≡ (get_or l.fn.hands w d).items;
 }

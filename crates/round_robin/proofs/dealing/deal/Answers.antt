@@ -1,4 +1,4 @@
-use Rattle.std.proofs.Common.{◌≡◌, ℕ, ◌%◌, ◌<◌, ◌++◌, ◌∷◌, [], List, Vec, Global, length, get_or, reverse, vec_capacity, ap, sym, refl, ◌∙◌, arith}
+use Rattle.std.proofs.Common.{ℕ, ◌%◌, ◌<◌, ◌++◌, ◌∷◌, [], List, Vec, Global, length, get_or, reverse, vec_capacity, ap, sym, refl, ◌∙◌, arith}
 use Rattle.std.proofs.lemmas.List.{length-append}
 use Rattle.std.proofs.lemmas.Nat.{mod_below}
 use Rattle.round_robin.specs.Dealing.{dealt, share}
