@@ -79,6 +79,18 @@ fn index_next<L: Ledger, R: Wait>(
     }
 }
 
+fn index_one<R: Wait>(
+    rt: &R,
+    alloc: Global,
+    vast: &Vast,
+    pass: &mut Pass,
+) -> Result<Option<u64>, Fail>
+    requires { pass_book pass.old ≡ book_id vast.now.book }
+    ensures { pass_book pass.new ≡ book_id vast.now.book }
+{
+    index_next::<Brand, _>(rt, alloc, vast, pass, Blank::new(1))
+}
+
 #[test]
 fn a_batch_that_a_pass_accepted_is_claimed_once(rt: HostRuntime) -> Result<(), Fail> {
     let alloc = rt.alloc();
@@ -142,9 +154,9 @@ fn batches_are_indexed_and_sealed_once_and_no_more_than_fit(rt: HostRuntime) -> 
     assert!(rt; accept(&rt, alloc, &vast, &mut pass)?.is_ok());
     let full = AcceptEnd::Full { have: 2, limit: 2 };
     assert_eq!(rt; accept(&rt, alloc, &vast, &mut pass)?, Err(full));
-    let first = index_next::<Brand, _>(&rt, alloc, &vast, &mut pass, Blank::new(1))?;
+    let first = index_one(&rt, alloc, &vast, &mut pass)?;
     assert_eq!(rt; seal_next(&rt, alloc, &vast, &mut pass)?, None);
-    let second = index_next::<Brand, _>(&rt, alloc, &vast, &mut pass, Blank::new(1))?;
+    let second = index_one(&rt, alloc, &vast, &mut pass)?;
     assert_eq!(rt; (first, second), (Some(0), Some(1)));
     assert_eq!(rt; seal_next(&rt, alloc, &vast, &mut pass)?, Some(0));
     assert_eq!(rt; seal_next(&rt, alloc, &vast, &mut pass)?, None);
