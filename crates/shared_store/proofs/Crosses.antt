@@ -170,9 +170,22 @@ shared_expr_send : IsSend (SharedExpr.the_field).row
 shared_expr_send = let a = expr_send in let b = expr_sync in search (sendable, crosses) depth 30
 
 deed_send : IsSend (Deed.the_field).row
-deed_send = enum_send (shape Deed.the_type)
-    ((packed_send, tt), (((search (sendable, crosses) depth 30), tt), (((search (sendable, crosses) depth 30), tt), (((search (sendable, crosses) depth 30), tt), (((search (sendable, crosses) depth 30), tt),
-    (((search (sendable, crosses) depth 30), (mode_send, (shared_expr_send, tt))), (((search (sendable, crosses) depth 30), ((search (sendable, crosses) depth 30), ((search (sendable, crosses) depth 30), tt))), (((search (sendable, crosses) depth 30), tt), tt))))))))
+deed_send = enum_send (shape Deed.the_type) (
+  (packed_send, tt),
+  (
+    ((search (sendable, crosses) depth 30), tt),
+    (
+      ((search (sendable, crosses) depth 30), tt),
+      (
+        ((search (sendable, crosses) depth 30), tt),
+        (
+          ((search (sendable, crosses) depth 30), tt),
+          (((search (sendable, crosses) depth 30), (mode_send, (shared_expr_send, tt))), (((search (sendable, crosses) depth 30), ((search (sendable, crosses) depth 30), ((search (sendable, crosses) depth 30), tt))), (((search (sendable, crosses) depth 30), tt), tt))),
+        ),
+      ),
+    ),
+  ),
+)
 
 entry_send : IsSend (Entry.the_field).row
 entry_send = let a = deed_send in search (sendable, crosses) depth 30
@@ -182,7 +195,6 @@ store_send = let a = kept_send in let b = query_send in let c = seal_send in let
 
 shared_send : IsSend (Shared.the_field).row
 shared_send = let a = store_send in search (sendable, crosses) depth 30
-
 
 seat_send : (S V : RattleType) → IsSend S → IsSend (Seat.the_row S V)
 seat_send S V s = record { owned = λ d vs. ((λ vss. (tt, ((λ uss. (tt, tt)), tt))), seat_keyless S s V.coded.code d.table_id d.id d.me); leaving = λ k f vs. tt }
@@ -194,7 +206,6 @@ table_sync S V K P g s = let fields : IsSync (Struct (owning.shape (Table.the_ty
 module _ (T T' T'' : RattleType) (g : Ghosts T.Denot T'.Denot T''.Denot) where
   pub pass_send : IsSend T → IsSend (Pass.the_field T T' T'' g).row
   pass_send s = search (sendable, crosses, seat_send) depth 30
-
 
 lease_sync : (T : RattleType) → IsSync (SendLease.the_row T Heap.the_row heap.ghosts)
 lease_sync T = record { shared = λ d b o ν q. part_keyless (SendLease.the_row T Heap.the_row heap.ghosts) (right_send T Heap.the_row heap.ghosts (record { frees = frees.frees })) q d b o }
@@ -214,4 +225,3 @@ shared_row_send = recorded_send (Shared.the_field).row _ _ (Shared.the_type).to_
 
 pub vast_row_sync : IsSync Vast.the_row
 vast_row_sync = recorded_sync (Vast.the_field).row _ _ (Vast.the_type).to_one vast_sync
-

@@ -3,7 +3,6 @@ use denote.Enum.Enum.{Enum}
 use denote.Enum.Declared.{shape}
 use denote.Param.Send.{IsSend, IsSync, enum_send, enum_sync, recorded_send, recorded_sync, sendable}
 use denote.Param.SendFields.{as_row_send, as_row_sync}
-use denote.RattleType.{RattleType}
 use denote.Hole.FixSend.{Sends, Syncs, fix_send, fix_sync}
 use Rattle.std.proofs.Crossing.{crosses}
 use Rattle.vast_value.specs.contracts.bytes.Bytes as Bytes

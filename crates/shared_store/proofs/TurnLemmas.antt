@@ -1,5 +1,5 @@
 -- What a move owes the turn book, and what a turn gives its caller.
-use Rattle.std.proofs.Common.{◌≡◌, ℕ, ◌<◌, List, [], ◌∷◌, ◌++◌, Option, None, Some, Result, Ok, Err, IfOk, All, ap, sym, refl, subst, ◌∙◌, append-nil, arith, rules}
+use Rattle.std.proofs.Common.{◌≡◌, ℕ, ◌<◌, List, [], ◌++◌, Option, None, Some, Result, Ok, Err, IfOk, All, ap, sym, refl, subst, ◌∙◌, append-nil, arith, rules}
 use Rattle.std.specs.declared.alloc.AllocError.{AllocError}
 use Rattle.std.proofs.lemmas.List.{reverse-append}
 use Rattle.event_history.specs.declared.entry.Entry.{Entry}

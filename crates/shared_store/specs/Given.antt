@@ -1,5 +1,5 @@
 -- What the shared store hands out, by what was seen.
-use Rattle.std.specs.Prelude.{◌≡◌, ℕ, List, ◌++◌, Option, None, Some}
+use Rattle.std.specs.Prelude.{◌≡◌, List, ◌++◌, Option, None, Some}
 use Rattle.event_history.specs.declared.entry.Entry.{Entry}
 use Rattle.event_history.specs.declared.entry.Limits.{Limits}
 use Rattle.event_history.specs.Histories.{past}

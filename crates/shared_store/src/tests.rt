@@ -180,7 +180,10 @@ fn a_query_is_told_what_another_pass_accepted_until_it_leaves(rt: HostRuntime) -
     };
     assert_eq!(rt; (taken.query(), taken.live()), (1, (0, 1)));
     assert_eq!(rt; vast.leave(&rt, &mut reads, query), Ok(()));
-    assert_eq!(rt; vast.leave(&rt, &mut reads, query), Err(LeaveEnd::Left { query: 1 }));
+    assert_eq!(rt;
+        vast.leave(&rt, &mut reads, query),
+        Err(LeaveEnd::Left { query: 1 })
+    );
     let more = Expr::And(Items::new(alloc));
     let Err((_, end)) = vast.register(&rt, &mut root, Mode::Past, more) else {
         return Err("registered".into());

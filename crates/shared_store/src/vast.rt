@@ -203,7 +203,8 @@ impl Vast {
         ensures back { IfErr result (GivesBackGroup group sealed) }
     {
         given_stays();
-        self.book.turn(rt, pass, moves::PublishGroup { group, sealed })
+        self.book
+            .turn(rt, pass, moves::PublishGroup { group, sealed })
     }
 
     /// Registers a query: the next one. `TooMany` comes exactly where as many as the limit are registered, and else `Ahead`

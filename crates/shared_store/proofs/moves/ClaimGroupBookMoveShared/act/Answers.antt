@@ -1,7 +1,3 @@
-use Rattle.std.proofs.Common.{◌≡◌, List, [], ◌∷◌, ◌++◌, Result, Ok, Err, IfOk, append-nil, sym, refl, subst, rules}
-use Rattle.std.specs.declared.alloc.AllocError.{AllocError}
-use Rattle.event_history.specs.Histories.{past}
-use Rattle.event_history.specs.Legal.{Legal}
 use Rattle.shared_store.proofs.TurnLemmas.{claimed_group}
 use Rattle.shared_store.proofs.moves.ClaimGroupBookMoveShared.act.Goals as goal
 
