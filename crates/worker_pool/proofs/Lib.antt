@@ -1,0 +1,3 @@
+pub mod IndexLemmas
+pub mod SealLemmas
+pub mod WentLemmas
