@@ -1,10 +1,12 @@
 -- How an input goes on.
-use Rattle.std.proofs.Common.{◌≡◌, ℕ, ◌+◌, Bool, true, false, List, [], ◌∷◌, ◌++◌, Option, None, Some, Result, Ok, Err, IsSomeAnd, IsTrue, length, refl, ap, sym, ◌∙◌, subst, arith, append_assoc, length-append, inl, inr}
+use Rattle.std.proofs.Common.{◌≡◌, ℕ, ◌+◌, ◌&&◌, Bool, true, false, List, [], ◌∷◌, ◌++◌, Option, None, Some, Result, Ok, Err, IsSomeAnd, IsTrue, length, refl, ap, sym, ◌∙◌, subst, arith, append_assoc, length-append, inl, inr, ◌⊎◌}
 use Rattle.std.proofs.lemmas.List.{append-nil}
 use Rattle.std.specs.Io.KnownBytes.{prepend_known}
+use Rattle.std.specs.Cmp.Lexicographic.{pointwise}
+use Rattle.vast_io.specs.Causes.{Rose}
 use Rattle.vast_value.specs.declared.cell.Cell.{Cell}
 use Rattle.vast_value.specs.declared.layout.Layout.{Layout}
-use Rattle.vast_value.specs.Headings.{Field, Heading, fits_fields, heading_of}
+use Rattle.vast_value.specs.Headings.{Field, Heading, fits_field, fits_fields, heading_of}
 use Rattle.source_block.specs.declared.stop.Stop.{Stop}
 use Rattle.source_block.specs.declared.stop.Stop.TheVariants.{AtEnd, Failed, AtBound}
 use Rattle.source_block.proofs.TakeLemmas.{prepend_nothing, prepend_twice}
@@ -18,17 +20,18 @@ use Rattle.zeek_log.specs.declared.step.Step.{Step}
 use Rattle.zeek_log.specs.declared.step.Step.TheVariants as step
 use Rattle.zeek_log.specs.Steps.{Steps, ended, first, step_of}
 use Rattle.zeek_log.specs.Table.{LogStep, Head, Line}
+use Rattle.pcap_file.specs.declared.reader.Phase.{Phase}
+use Rattle.pcap_file.specs.declared.reader.Phase.TheVariants.{Start, Records, Ended as PhaseEnded}
 use Rattle.importer.specs.declared.ends.ImportEnd.{ImportEnd}
 use Rattle.importer.specs.declared.ends.ImportEnd.TheVariants as import
 use Rattle.importer.specs.Carrying.{carried, protocol_place, row_transport}
 use Rattle.importer.proofs.CarryLemmas.{still_fits}
 use Rattle.importer.proofs.CurrentLemmas.{carried_count, carried_none}
-use Rattle.importer.specs.Coming.{Standing, Log, Ended, Follow, Anything, Nothing, Lost, MayFollow, IsAfterEnd, IsAfterState, IsKnownBy, IsAt, Leads, Goes, Standpoint, Stays, StepsOn, HasFaults, IsReadFault, IsReadFaultEnd, IsReadFaultState, end_answer, fields_told, heading_at, moves_given, steps_given, steps_to_come}
-use Rattle.importer.specs.declared.input.Phase.{Phase}
-use Rattle.importer.specs.declared.input.Phase.TheVariants as phase
+use Rattle.importer.specs.Coming.{Standing, Fresh, Log, Packets, Flows, Ended, Follow, Anything, Nothing, Lost, MayFollow, IsAfterEnd, IsAfterState, IsKnownBy, IsAt, IsQuiet, Leads, Goes, Standpoint, Stays, StepsOn, HasFaults, IsReadFault, IsLost, IsLostState, IsReadFaultEnd, IsReadFaultPhase, IsReadFaultState, end_answer, fields_told, moves_given, steps_given, steps_to_come}
+use Rattle.importer.specs.declared.input.Phase.{Phase as InputPhase}
 use Rattle.importer.specs.Inputs.{ReadStays, row_of, standing_of}
 use Rattle.importer.specs.Logs.{CarriesBy, carried_point}
-use Rattle.importer.specs.Ending.{ahead, end_of_log}
+use Rattle.importer.specs.Ending.{ahead, end_of_capture, end_of_log}
 use Rattle.importer.specs.Steps.{carried_answers}
 
 -- ---- any two calls
@@ -335,45 +338,143 @@ no_fault_open (Reads told n) runs fault = fault
 no_fault_open (Last told) runs fault = fault
 no_fault_open (EndedState e) runs fault = cc
 
-pub faults_step : (old new : Reading) (x : LogStep) (before now : ℕ) → StepFits (heading_told old.state) (heading_told new.state) x → CountsOf old.state (Ok x) before now
-    → HasFaults (Log old) (Log new) before now
-faults_step old new x before now fits counts = record {
-  failed = λ is other. absurd (no_fault_open new.state (step_open (heading_told old.state) new.state x fits) is);
-  kept = λ other. counts_step old.state x before now counts;
-}
+-- a step was given behind no failed read
+step_before : (st : State) (held : List ℕ) (count kept : ℕ) (new : Reading) (left left_now : Option (List ℕ)) (x : LogStep) → Follows st (reading st held count kept) new left left_now (Ok x)
+    → IsReadFaultState st → ⊥
+step_before (Reads told n) held count kept new left left_now x follows is = is
+step_before (Last told) held count kept new left left_now x follows is = is
+step_before (EndedState e) held count kept new left left_now x follows is = let no = follows.0 in cc
 
-pub faults_moved : (old new : reader.Standing) (m : Moved) (before now : ℕ) → StepHas (heading_told old.at.state) (heading_told new.at.state) (step_at new m)
-    → CountsOf old.at.state (Ok (step_at new m)) before now → HasFaults (Log old.at) (Log new.at) before now
-faults_moved old new m before now has counts = record {
-  failed = λ is other. absurd (no_fault_open new.at.state (has_open (heading_told old.at.state) new.at.state (step_at new m) has) is);
-  kept = λ other. counts_step old.at.state (step_at new m) before now counts;
-}
+faults_given : (old new : Reading) (left left_now : Option (List ℕ)) (x : LogStep) (before now : ℕ) → is_open new.state ≡ true → Follows old.state old new left left_now (Ok x)
+    → CountsOf old.state (Ok x) before now → HasFaults (Log old) (Log new) before now
+faults_given old new left left_now x before now runs follows counts =
+    let same = counts_step old.state x before now counts in
+    record {
+      failed = λ is other. absurd (no_fault_open new.state runs is);
+      kept = λ other there. same;
+      again = λ is. same;
+      lasts = λ is there. absurd (step_before old.state old.held old.taken old.kept new left left_now x follows is);
+    }
+
+pub faults_step : (old new : Reading) (left left_now : Option (List ℕ)) (x : LogStep) (before now : ℕ) → Follows old.state old new left left_now (Ok x)
+    → StepFits (heading_told old.state) (heading_told new.state) x → CountsOf old.state (Ok x) before now → HasFaults (Log old) (Log new) before now
+faults_step old new left left_now x before now follows fits counts =
+    faults_given old new left left_now x before now (step_open (heading_told old.state) new.state x fits) follows counts
+
+pub faults_moved : (old new : reader.Standing) (left left_now : Option (List ℕ)) (m : Moved) (before now : ℕ) → Follows old.at.state old.at new.at left left_now (Ok (step_at new m))
+    → StepHas (heading_told old.at.state) (heading_told new.at.state) (step_at new m) → CountsOf old.at.state (Ok (step_at new m)) before now → HasFaults (Log old.at) (Log new.at) before now
+faults_moved old new left left_now m before now follows has counts =
+    faults_given old.at new.at left left_now (step_at new m) before now (has_open (heading_told old.at.state) new.at.state (step_at new m) has) follows counts
 
 pub faults_lost : (old new : Reading) (x : LogStep) (before now : ℕ) → CountsOf old.state (Ok x) before now → HasFaults (Log old) (Ended (Some import.Memory)) before now
-faults_lost old new x before now counts = record { failed = λ is other. absurd is; kept = λ other. counts_step old.state x before now counts }
+faults_lost old new x before now counts =
+    let same = counts_step old.state x before now counts in
+    record { failed = λ is other. absurd is; kept = λ other there. same; again = λ is. same; lasts = λ is there. absurd (there tt) }
 
-faults_by : (old : Reading) (e : ZeekEnd) (before now : ℕ) → reader.CountsBy (Err e) before now → HasFaults (Log old) (Ended (end_of_log e)) before now
-faults_by old end.Done before now counts = record { failed = λ is other. absurd is; kept = λ other. counts }
-faults_by old end.TooLong before now counts = record { failed = λ is other. absurd is; kept = λ other. counts }
-faults_by old end.Memory before now counts = record { failed = λ is other. absurd is; kept = λ other. counts }
-faults_by old (end.Fault n column what) before now counts = record { failed = λ is other. absurd is; kept = λ other. counts }
-faults_by old end.ReadFault before now counts = record { failed = λ is other. counts; kept = λ other. absurd (other tt) }
+faults_by : (old : Reading) (e : ZeekEnd) (before now : ℕ) → (IsReadFaultState old.state → ⊥) → reader.CountsBy (Err e) before now → HasFaults (Log old) (Ended (end_of_log e)) before now
+faults_by old end.Done before now never counts = record { failed = λ is other. absurd is; kept = λ other there. counts; again = λ is. absurd (never is); lasts = λ is there. absurd (never is) }
+faults_by old end.TooLong before now never counts = record { failed = λ is other. absurd is; kept = λ other there. counts; again = λ is. absurd (never is); lasts = λ is there. absurd (never is) }
+faults_by old end.Memory before now never counts = record { failed = λ is other. absurd is; kept = λ other there. counts; again = λ is. absurd (never is); lasts = λ is there. absurd (never is) }
+faults_by old (end.Fault n column what) before now never counts = record { failed = λ is other. absurd is; kept = λ other there. counts; again = λ is. absurd (never is); lasts = λ is there. absurd (never is) }
+faults_by old end.ReadFault before now never counts = record { failed = λ is other. counts; kept = λ other there. absurd (other tt); again = λ is. absurd (never is); lasts = λ is there. tt }
 
 faults_in : (st : State) (held : List ℕ) (count kept : ℕ) (new : Reading) (left left_now : Option (List ℕ)) (e : ZeekEnd) (before now : ℕ)
     → Follows st (reading st held count kept) new left left_now (Err e) → CountsOf st (Err e) before now → HasFaults (Log (reading st held count kept)) (Ended (end_of_log e)) before now
-faults_in (Reads told n) held count kept new left left_now e before now follows counts = faults_by (reading (Reads told n) held count kept) e before now counts
+faults_in (Reads told n) held count kept new left left_now e before now follows counts = faults_by (reading (Reads told n) held count kept) e before now (λ is. is) counts
 faults_in (Last told) held count kept new left left_now e before now follows counts = record {
   failed = λ is other. absurd (subst (λ (x : ZeekEnd). IsReadFaultEnd (end_of_log x)) (same_end e end.Done follows.0) is);
-  kept = λ other. counts;
+  kept = λ other there. counts;
+  again = λ is. counts;
+  lasts = λ is there. absurd is;
 }
-faults_in (EndedState f) held count kept new left left_now e before now follows counts = record {
-  failed = λ is other. absurd (other (subst (λ (x : ZeekEnd). IsReadFaultEnd (end_of_log x)) (same_end e f follows.0) is));
-  kept = λ other. counts;
-}
+faults_in (EndedState f) held count kept new left left_now e before now follows counts =
+    let same = same_end e f follows.0 in
+    record {
+      failed = λ is other. absurd (other (subst (λ (x : ZeekEnd). IsReadFaultEnd (end_of_log x)) same is));
+      kept = λ other there. counts;
+      again = λ is. counts;
+      lasts = λ is there. subst (λ (x : ZeekEnd). IsReadFaultEnd (end_of_log x)) (sym same) is;
+    }
 
 pub faults_end : (old new : Reading) (left left_now : Option (List ℕ)) (e : ZeekEnd) (before now : ℕ) → Follows old.state old new left left_now (Err e)
     → CountsOf old.state (Err e) before now → HasFaults (Log old) (Ended (end_of_log e)) before now
 faults_end old new left left_now e before now follows counts = faults_in old.state old.held old.taken old.kept new left left_now e before now follows counts
+
+-- ---- faults of any two calls
+
+of_end : (end : Option ImportEnd) → IsReadFaultEnd end ⊎ (IsReadFaultEnd end → ⊥)
+of_end None = inr (λ is. is)
+of_end (Some import.ReadFault) = inl tt
+of_end (Some import.TooLong) = inr (λ is. is)
+of_end (Some import.Memory) = inr (λ is. is)
+of_end (Some (import.Fault f)) = inr (λ is. is)
+
+of_state : (st : State) → IsReadFaultState st ⊎ (IsReadFaultState st → ⊥)
+of_state (Reads told n) = inr (λ is. is)
+of_state (Last told) = inr (λ is. is)
+of_state (EndedState e) = of_end (end_of_log e)
+
+of_phase : (phase : Phase) → IsReadFaultPhase phase ⊎ (IsReadFaultPhase phase → ⊥)
+of_phase Start = inr (λ is. is)
+of_phase (Records head offset) = inr (λ is. is)
+of_phase (PhaseEnded e headed) = of_end (end_of_capture e)
+
+-- a failed read is the end, or it is not
+pub read_fault_or : (at : Standing) → IsReadFault at ⊎ (IsReadFault at → ⊥)
+read_fault_or Fresh = inr (λ is. is)
+read_fault_or (Log r) = of_state r.state
+read_fault_or (Packets p) = of_phase p.reader.phase
+read_fault_or (Flows f) = of_end f.end
+read_fault_or (Ended end) = of_end end
+
+pub faults_join : (a b c : Standing) (x y z : ℕ) → (IsLost b → ⊥) → HasFaults a b x y → HasFaults b c y z → HasFaults a c x z
+faults_join a b c x y z there one two = by (read_fault_or b)
+  where
+    by : IsReadFault b ⊎ (IsReadFault b → ⊥) → HasFaults a c x z
+    by (inl failed) =
+        let same = two.again failed in
+        record {
+          failed = λ is other. subst (Rose x) (sym same) (one.failed failed other);
+          kept = λ other left. absurd (other (two.lasts failed left));
+          again = λ is. same ∙ one.again is;
+          lasts = λ is left. two.lasts failed left;
+        }
+    by (inr well) =
+        let same = one.kept well there in
+        record {
+          failed = λ is other. subst (λ (n : ℕ). Rose n z) same (two.failed is well);
+          kept = λ other left. two.kept other left ∙ same;
+          again = λ is. absurd (well (one.lasts is there));
+          lasts = λ is left. absurd (well (one.lasts is there));
+        }
+
+-- memory was wanting behind a call
+pub faults_memory : (a b : Standing) (x y : ℕ) → HasFaults a b x y → HasFaults a (Ended (Some import.Memory)) x y
+faults_memory a b x y one = record { failed = λ is other. absurd is; kept = λ other there. absurd (there tt); again = one.again; lasts = λ is there. absurd (there tt) }
+
+-- nothing was read
+pub faults_stay : (at new : Standing) (x y : ℕ) → y ≡ x → (IsReadFault at → (IsLost new → ⊥) → IsReadFault new) → (IsReadFault new → IsReadFault at) → HasFaults at new x y
+faults_stay at new x y same lasts back = record {
+  failed = λ is other. absurd (other (back is));
+  kept = λ other there. same;
+  again = λ is. same;
+  lasts = lasts;
+}
+
+-- ---- a source that is read no more
+
+quiet_in : (st : State) (held : List ℕ) (count kept : ℕ) (new : Reading) (left left_now : Option (List ℕ)) (r : Result LogStep ZeekEnd) (before now : ℕ)
+    → Follows st (reading st held count kept) new left left_now r → CountsOf st r before now → IsQuiet (Log (reading st held count kept)) left left_now before now
+quiet_in (Reads told n) held count kept new left left_now r before now follows counts = λ no. cc
+quiet_in (Last told) held count kept new left left_now (Ok x) before now follows counts = let no = follows.0 in cc
+quiet_in (Last told) held count kept new left left_now (Err e) before now follows counts = λ quiet. (follows.2, counts)
+quiet_in (EndedState f) held count kept new left left_now (Ok x) before now follows counts = let no = follows.0 in cc
+quiet_in (EndedState f) held count kept new left left_now (Err e) before now follows counts = λ quiet. (follows.2, counts)
+
+pub log_quiet : (old i new : Reading) (left left_now : Option (List ℕ)) (r : Result LogStep ZeekEnd) (before now : ℕ) → i ≡ old
+    → Follows i.state i new left left_now r → CountsOf i.state r before now → IsQuiet (Log old) left left_now before now
+log_quiet old i new left left_now r before now seen follows counts =
+    subst (λ (x : Reading). IsQuiet (Log x) left left_now before now) seen (quiet_in i.state i.held i.taken i.kept new left left_now r before now follows counts)
 
 -- no layout stands behind an end
 no_heading_in : (st : State) (held : List ℕ) (count kept : ℕ) (new : Reading) (left left_now : Option (List ℕ)) (e : ZeekEnd)
@@ -445,7 +546,7 @@ reads_same : {X : Type 0} (a b : Option ImportEnd) → ◌≡◌ {A = Result X (
 reads_same a b same = cc
 
 -- an end that was met stays
-pub end_stays : {S X : Type 0} (old new : Standpoint S) (p : Phase) (from : S) (why : Option ImportEnd) (answer : Result (Option X) ImportEnd) → point (standing_of p) (row_of p) from ≡ new
+pub end_stays : {S X : Type 0} (old new : Standpoint S) (p : InputPhase) (from : S) (why : Option ImportEnd) (answer : Result (Option X) ImportEnd) → point (standing_of p) (row_of p) from ≡ new
     → ReadStays {X = X} old new (Err why) → answer ≡ end_answer why → Stays old.at old (point (Ended why) [] from) answer
 end_stays {S = S} {X = X} old new p from why answer seen stays is = λ end at.
     let again = stays end at in
@@ -470,9 +571,47 @@ stay_at at end left left_now is same =
     subst (λ (l : Option (List ℕ)). StepsOn at (Ended end) left l []) (sym same)
     (subst (λ (s : Standing). StepsOn s (Ended end) left left []) (sym is) (goes_stay (Ended end) (steps_to_come (Ended end)) left))
 
--- a step was given, so no end is all that is to come
-pub step_no_fault : (before : Option Heading) (new : Standing) (x : LogStep) → StepFits before (heading_at new) x → IsReadFault new → ⊥
-step_no_fault before (Log r) x fits fault = no_fault_open r.state (step_open before r.state x fits) fault
-step_no_fault before (Ended e) (Head heading) fits fault = cc
-step_no_fault None (Ended e) (Line row) fits fault = absurd fits.0
-step_no_fault (Some h) (Ended e) (Line row) fits fault = let never = fits.1 in cc
+both_true : (a b : Bool) → a && b ≡ true → b ≡ true
+both_true true b h = h
+both_true false b h = cc
+
+same_count : {X Y : Type 0} (test : X → Y → Bool) (xs : List X) (ys : List Y) → pointwise test xs ys ≡ true → length xs ≡ length ys
+same_count test [] [] all = refl
+same_count test [] (y ∷ ys) all = cc
+same_count test (x ∷ xs) [] all = cc
+same_count test (x ∷ xs) (y ∷ ys) all = let rest = same_count test xs ys (both_true (test x y) (pointwise test xs ys) all) in omega (arith, rest)
+
+row_count : (before : Option Heading) (row : List Cell) → IsSomeAnd before (λ heading. IsTrue (fits_fields heading.fields row)) → IsSomeAnd before (λ heading. length heading.fields ≡ length row)
+row_count None row fits = fits
+row_count (Some h) row fits = same_count fits_field h.fields row fits
+
+-- a row that fits has a cell for each column
+pub has_fit : (before now : Option Heading) (x : LogStep) → StepFits before now x → StepHas before now x
+has_fit before now (Head heading) fits = fits
+has_fit before now (Line row) fits = (row_count before row fits.0, fits.1)
+
+pub begun_steps : (a b c : Standing) (left mid now : Option (List ℕ)) (xs : List LogStep) → StepsOn a b left mid [] → StepsOn b c mid now xs → StepsOn a c left now xs
+begun_steps a b c left mid now xs one two =
+    goes_join a b c (steps_to_come a) (steps_to_come b) (steps_to_come c) (ahead []) (ahead xs) left mid now one two
+
+row_before : (st : State) (now : Option Heading) (row : List Cell) → StepHas (heading_told st) now (Line row) → IsReadFaultState st → ⊥
+row_before (Reads told n) now row has fault = fault
+row_before (Last told) now row has fault = fault
+row_before (EndedState e) now row has fault = absurd has.0
+
+-- a row was seen in place
+pub faults_in_place : (old new : Reading) (row : List Cell) (count : ℕ) → StepHas (heading_told old.state) (heading_told new.state) (Line row) → HasFaults (Log old) (Log new) count count
+faults_in_place old new row count has = record {
+  failed = λ is other. absurd (no_fault_open new.state (has_open (heading_told old.state) new.state (Line row) has) is);
+  kept = λ other there. refl;
+  again = λ is. refl;
+  lasts = λ is there. absurd (row_before old.state (heading_told new.state) row has is);
+}
+
+open_there : (st : State) → is_open st ≡ true → IsLostState st → ⊥
+open_there (Reads told n) runs lost = lost
+open_there (Last told) runs lost = lost
+open_there (EndedState e) runs lost = cc
+
+pub there_in_place : (old new : Reading) (row : List Cell) → StepHas (heading_told old.state) (heading_told new.state) (Line row) → IsLost (Log new) → ⊥
+there_in_place old new row has lost = open_there new.state (has_open (heading_told old.state) new.state (Line row) has) lost

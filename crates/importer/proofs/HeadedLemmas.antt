@@ -12,10 +12,16 @@ use Rattle.zeek_log.specs.declared.fault.ZeekFault.TheVariants.{FieldsTypes, NoH
 use Rattle.zeek_log.specs.declared.step.ZeekEnd.{ZeekEnd}
 use Rattle.zeek_log.specs.Heads.{Told, names_read, opening, separator_of}
 use Rattle.zeek_log.specs.Lines.{is_too_long, lines_of, pieces_of}
-use Rattle.zeek_log.specs.Steps.{Steps, end_of, follow, steps_from, steps_of, taken_steps}
+use Rattle.zeek_log.specs.Steps.{Steps, end_of, follow, steps_from, steps_of}
 use Rattle.zeek_log.specs.Table.{Breaks, Gives, Goes, Head, Line, LogStep, Outcome, data_line, fields_head, fields_read, head_line, line_outcome, named_head, names_told, separator_told, set_separator_told, types_told}
 use Rattle.importer.specs.Cutting.{rows_first}
-use Rattle.importer.specs.Steps.{carried_steps}
+use Rattle.pcap_file.specs.Heads.{has_head}
+use Rattle.pcap_file.specs.Records as capture
+use Rattle.pcap_file.specs.Records.{records}
+use Rattle.importer.specs.declared.form.Form.{Form}
+use Rattle.importer.specs.declared.form.Form.TheVariants.{Log, Capture, Refused}
+use Rattle.importer.specs.Forms.{form_of}
+use Rattle.importer.specs.Steps.{capture_steps, carried_steps, input_steps, steps_as, taken_steps}
 
 -- no layout stands behind it, and no row comes of it
 abbrev IsHeadless : Outcome → Type 0
@@ -87,18 +93,27 @@ from_headless (line ∷ lines) n end told none =
 steps_headed : (bytes : List ℕ) (stop : Stop) → rows_first (steps_of bytes stop).given ≡ []
 steps_headed bytes stop = from_headless (lines_of stop bytes) 1 (end_of stop) opening refl
 
-taken_headed : (bytes took : List ℕ) (failed full : Bool) → rows_first (if failed then steps_of took Failed else (if full then steps_of took AtBound else steps_of bytes AtEnd)).given ≡ []
-taken_headed bytes took true full = steps_headed took Failed
-taken_headed bytes took false true = steps_headed took AtBound
-taken_headed bytes took false false = steps_headed bytes AtEnd
-
 carried_headed : (fields : List Field) (steps : List LogStep) → rows_first steps ≡ [] → rows_first (carried_steps fields steps) ≡ []
 carried_headed fields [] first = refl
 carried_headed fields (Head heading ∷ steps) first = refl
 carried_headed fields (Line row ∷ steps) first = cc
 
-pub input_headed : (bytes : List ℕ) (stop : Stop) → rows_first (carried_steps [] (steps_of bytes stop).given) ≡ []
-input_headed bytes stop = carried_headed [] (steps_of bytes stop).given (steps_headed bytes stop)
+pub input_headed : (bytes : List ℕ) (stop : Stop) → rows_first (input_steps bytes stop).given ≡ []
+input_headed bytes stop = as_form (form_of bytes) bytes stop
+  where
+    as_headed : (headed : Bool) (all : capture.Answers) → rows_first (capture_steps headed all).given ≡ []
+    as_headed true all = refl
+    as_headed false all = refl
 
-pub source_headed : (bytes took : List ℕ) (failed : Bool) → rows_first (carried_steps [] (taken_steps bytes took failed).given) ≡ []
-source_headed bytes took failed = carried_headed [] (taken_steps bytes took failed).given (taken_headed bytes took failed (nat_le most_bytes (length took)))
+    as_form : (form : Form) (bytes : List ℕ) (stop : Stop) → rows_first (steps_as form bytes stop).given ≡ []
+    as_form Log bytes stop = carried_headed [] (steps_of bytes stop).given (steps_headed bytes stop)
+    as_form Capture bytes stop = as_headed (has_head bytes) (records bytes stop)
+    as_form (Refused fault) bytes stop = refl
+
+taken_headed : (bytes took : List ℕ) (failed full : Bool) → rows_first (if failed then input_steps took Failed else (if full then input_steps took AtBound else input_steps bytes AtEnd)).given ≡ []
+taken_headed bytes took true full = input_headed took Failed
+taken_headed bytes took false true = input_headed took AtBound
+taken_headed bytes took false false = input_headed bytes AtEnd
+
+pub source_headed : (bytes took : List ℕ) (failed : Bool) → rows_first (taken_steps bytes took failed).given ≡ []
+source_headed bytes took failed = taken_headed bytes took failed (nat_le most_bytes (length took))

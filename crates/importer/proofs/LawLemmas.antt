@@ -11,17 +11,19 @@ use Rattle.event_batch.specs.Contents.{Content}
 use Rattle.source_block.specs.Holding.{most_bytes}
 use Rattle.source_block.specs.declared.stop.Stop.{Stop}
 use Rattle.source_block.specs.declared.stop.Stop.TheVariants.{AtEnd, Failed, AtBound}
-use Rattle.zeek_log.specs.Steps.{Steps, steps_of, taken_steps}
+use Rattle.source_block.proofs.TakeLemmas.{prepend_twice}
 use Rattle.zeek_log.specs.Table.{LogStep, Head, Line}
+use Rattle.pcap_file.specs.declared.reader.Phase.{Phase}
+use Rattle.pcap_file.specs.declared.reader.Phase.TheVariants.{Start, Records, Ended as PhaseEnded}
 use Rattle.importer.specs.declared.ends.ImportEnd.{ImportEnd}
 use Rattle.importer.specs.declared.ends.ImportEnd.TheVariants.{Fault, ReadFault, TooLong, Memory}
 use Rattle.zeek_log.specs.Reader.{State}
 use Rattle.zeek_log.specs.Reader.{Reads as StateReads, Last as StateLast, Ended as StateEnded}
-use Rattle.importer.specs.Coming.{Anything, BatchesOn, Ended, Follow, Importing, IsAfter, IsAfterEnd, IsAfterState, IsKnownBy, IsLost, IsLostState, Log, MayFollow, Nothing, Standing, StepsOn, batches_to_come, fresh, steps_to_come}
+use Rattle.importer.specs.Coming.{Anything, BatchesOn, Ended, Flows, Follow, Fresh, Importing, IsAfter, IsAfterEnd, IsAfterState, IsKnownBy, IsLost, IsLostPhase, IsLostState, IsReadFault, IsReadFaultEnd, IsReadFaultPhase, IsReadFaultState, Log, MayFollow, Nothing, Packets, Standing, StepsOn, batches_to_come, fresh, is_reading, reads_on, steps_to_come}
 use Rattle.importer.specs.Cutting.{Bounds, Part, batch_of, bounds_of, cut, cut_answers, cut_by, is_full, last_piece, part_batches, parts_of, pieces_since, rows_first, steps_behind}
 use Rattle.importer.specs.Ending.{Answers, ahead, only_end}
 use Rattle.importer.specs.Laws.{AreCut, ComesFirst, IsPiece, is_failed, is_read_fault, rows_in, starting}
-use Rattle.importer.specs.Steps.{carried_answers, input_steps, input_steps_of_source}
+use Rattle.importer.specs.Steps.{input_steps, input_steps_of_source, taken_steps}
 use Rattle.importer.proofs.CutLemmas.{nothing_comes}
 use Rattle.importer.proofs.GoingLemmas.{goes_join}
 use Rattle.importer.proofs.HeadedLemmas.{input_headed, source_headed}
@@ -182,10 +184,10 @@ taken_is bytes took rest split =
     let count : length bytes - length rest ≡ length took = omega (arith, ap length split, length-append took rest) in
     ap (λ (n : ℕ). take n bytes) count ∙ ap (λ (t : List ℕ). take (length took) t) split ∙ take-append_seam took rest
 
-at_bound : (bytes took : List ℕ) (b : Bool) → nat_le most_bytes (length took) ≡ b → b ≡ true → taken_steps bytes took false ≡ steps_of took AtBound
+at_bound : (bytes took : List ℕ) (b : Bool) → nat_le most_bytes (length took) ≡ b → b ≡ true → taken_steps bytes took false ≡ input_steps took AtBound
 at_bound bytes took b is at = rw (is ∙ at) refl
 
-pub below_bound : (bytes took : List ℕ) (b : Bool) → nat_le most_bytes (length took) ≡ b → b ≡ false → taken_steps bytes took false ≡ steps_of bytes AtEnd
+pub below_bound : (bytes took : List ℕ) (b : Bool) → nat_le most_bytes (length took) ≡ b → b ≡ false → taken_steps bytes took false ≡ input_steps bytes AtEnd
 below_bound bytes took b is off = rw (is ∙ off) refl
 
 pub below_most : (n : ℕ) → n < most_bytes → nat_le most_bytes n ≡ false
@@ -194,31 +196,28 @@ below_most n few = grind (arith, nat_tests, few)
 most_is : (n : ℕ) → n ≡ most_bytes → nat_le most_bytes n ≡ true
 most_is n full = grind (arith, nat_tests, full)
 
-abbrev pub carries : Steps → Answers LogStep
-carries steps = carried_answers [] steps
-
 -- the steps of the source are those of what was taken and may follow
 abbrev FollowsSo : List ℕ → List ℕ → List ℕ → Follow → Bool → Type 0
 FollowsSo bytes left took follow failed = (more : List ℕ) × ((stop : Stop) × (MayFollow follow more stop × (input_steps_of_source bytes left failed ≡ input_steps (took ++ more) stop)))
 
 failed_so : (bytes left took : List ℕ) → bytes ≡ took ++ left → FollowsSo bytes left took (Nothing Failed) true
 failed_so bytes left took split =
-    ([], (Failed, ((refl, refl), ap (λ (t : List ℕ). carries (steps_of t Failed)) (taken_is bytes took left split ∙ sym (append-nil took)))))
+    ([], (Failed, ((refl, refl), ap (λ (t : List ℕ). input_steps t Failed) (taken_is bytes took left split ∙ sym (append-nil took)))))
 
 -- no more was taken, since so much was
 pub bound_is : (bytes left took : List ℕ) → bytes ≡ took ++ left → nat_le most_bytes (length took) ≡ true → input_steps_of_source bytes left false ≡ input_steps took AtBound
 bound_is bytes left took split full =
-    ap (λ (t : List ℕ). carries (taken_steps bytes t false)) (taken_is bytes took left split) ∙ ap carries (at_bound bytes took true full refl)
+    ap (λ (t : List ℕ). taken_steps bytes t false) (taken_is bytes took left split) ∙ at_bound bytes took true full refl
 
 -- what is left may follow
 pub there_is : (bytes left took : List ℕ) → bytes ≡ took ++ left → nat_le most_bytes (length took) ≡ false → input_steps_of_source bytes left false ≡ input_steps (took ++ left) AtEnd
 there_is bytes left took split few =
-    ap (λ (t : List ℕ). carries (taken_steps bytes t false)) (taken_is bytes took left split) ∙ ap carries (below_bound bytes took false few refl)
-    ∙ ap (λ (t : List ℕ). carries (steps_of t AtEnd)) split
+    ap (λ (t : List ℕ). taken_steps bytes t false) (taken_is bytes took left split) ∙ below_bound bytes took false few refl
+    ∙ ap (λ (t : List ℕ). input_steps t AtEnd) split
 
 bound_so : (bytes left took : List ℕ) (follow : Follow) → bytes ≡ took ++ left → nat_le most_bytes (length took) ≡ true → MayFollow follow [] AtBound → FollowsSo bytes left took follow false
 bound_so bytes left took follow split full may =
-    ([], (AtBound, (may, bound_is bytes left took split full ∙ ap (λ (t : List ℕ). carries (steps_of t AtBound)) (sym (append-nil took)))))
+    ([], (AtBound, (may, bound_is bytes left took split full ∙ ap (λ (t : List ℕ). input_steps t AtBound) (sym (append-nil took)))))
 
 there_so : (bytes left took : List ℕ) (follow : Follow) → bytes ≡ took ++ left → nat_le most_bytes (length took) ≡ false → MayFollow follow left AtEnd → FollowsSo bytes left took follow false
 there_so bytes left took follow split few may = (left, (AtEnd, (may, there_is bytes left took split few)))
@@ -291,6 +290,11 @@ state_so bytes left took follow (StateEnded end) split after known there = absur
 
 standing_so : (bytes left took : List ℕ) (follow : Follow) (standing : Standing) → bytes ≡ took ++ left → IsAfter standing follow → IsKnownBy follow (Some left) (length took) → (IsLost standing → ⊥)
     → FollowsSo bytes left took follow (is_failed standing)
+standing_so bytes left took follow Fresh split after known there =
+    subst (λ (f : Follow). FollowsSo bytes left took f false) (sym after) (anything_so bytes left took (nat_le most_bytes (length took)) split refl)
+standing_so bytes left took follow (Packets p) split after known there =
+    subst (λ (f : Follow). FollowsSo bytes left took f false) (sym after.0) (anything_so bytes left took (nat_le most_bytes (length took)) split refl)
+standing_so bytes left took follow (Flows f) split after known there = end_so bytes left took follow f.end split after known there
 standing_so bytes left took follow (Log r) split after known there = state_so bytes left took follow r.state split after known there
 standing_so bytes left took follow (Ended end) split after known there = end_so bytes left took follow end split after known there
 
@@ -301,3 +305,79 @@ first_batches number rows now bytes left given goes there =
     let known : IsKnownBy leads.follow (Some left) (length leads.took) = subst (λ (n : ℕ). IsKnownBy leads.follow (Some left) n) (omega arith) leads.at.known in
     let so = standing_so bytes left leads.took leads.follow now.standing (some_is bytes leads.took left leads.left) leads.at.after known there in
     (batches_to_come now so.0 so.1.0, ap (cut_answers number rows) so.1.1.1 ∙ leads.is so.0 so.1.0 so.1.1.0)
+
+-- ---- what came is the first of all, whatever was taken behind it
+
+-- a failed read is the end, or it is not
+abbrev FailsOr : Standing → Type 0
+FailsOr at = (IsReadFault at × (is_failed at ≡ true)) ⊎ ((IsReadFault at → ⊥) × (is_failed at ≡ false))
+
+failed_end : (end : Option ImportEnd) → (IsReadFaultEnd end × (is_read_fault end ≡ true)) ⊎ ((IsReadFaultEnd end → ⊥) × (is_read_fault end ≡ false))
+failed_end None = inr ((λ is. is), refl)
+failed_end (Some ReadFault) = inl (tt, refl)
+failed_end (Some TooLong) = inr ((λ is. is), refl)
+failed_end (Some Memory) = inr ((λ is. is), refl)
+failed_end (Some (Fault f)) = inr ((λ is. is), refl)
+
+failed_state : (st : State) → (IsLostState st → ⊥) → (IsReadFaultState st → ⊥)
+failed_state (StateReads told n) there = λ is. is
+failed_state (StateLast told) there = λ is. is
+failed_state (StateEnded end) there = absurd (there tt)
+
+failed_phase : (phase : Phase) → (IsLostPhase phase → ⊥) → (IsReadFaultPhase phase → ⊥)
+failed_phase Start there = λ is. is
+failed_phase (Records head offset) there = λ is. is
+failed_phase (PhaseEnded e headed) there = absurd (there tt)
+
+pub failed_or : (at : Standing) → (IsLost at → ⊥) → FailsOr at
+failed_or Fresh there = inr ((λ is. is), refl)
+failed_or (Log r) there = inr (failed_state r.state there, refl)
+failed_or (Packets p) there = inr (failed_phase p.reader.phase there, refl)
+failed_or (Flows f) there = failed_end f.end
+failed_or (Ended end) there = failed_end end
+
+-- Where more may be taken, anything may follow.
+reading_state : (st : State) (follow : Follow) → reads_on st ≡ true → IsAfterState st follow → follow ≡ Anything
+reading_state (StateReads told n) follow runs after = after
+reading_state (StateLast told) follow runs after = cc
+reading_state (StateEnded e) follow runs after = cc
+
+reading_follow : (at : Standing) (follow : Follow) → is_reading at ≡ true → IsAfter at follow → follow ≡ Anything
+reading_follow Fresh follow runs after = after
+reading_follow (Packets p) follow runs after = after.0
+reading_follow (Log r) follow runs after = reading_state r.state follow runs after
+reading_follow (Flows f) follow runs after = cc
+reading_follow (Ended end) follow runs after = cc
+
+module _ (at : Standing) (given : List LogStep) (bytes rest took behind : List ℕ)
+    (come : (more : List ℕ) (stop : Stop) → input_steps (took ++ more) stop ≡ ahead given (steps_to_come at more stop)) (split : bytes ≡ (took ++ behind) ++ rest) where
+  first_bound : (b : Bool) → nat_le most_bytes (length (took ++ behind)) ≡ b → ComesFirst given (input_steps_of_source bytes rest false)
+  first_bound true full = (steps_to_come at behind AtBound, bound_is bytes rest (took ++ behind) split full ∙ come behind AtBound)
+  first_bound false few =
+      (steps_to_come at (behind ++ rest) AtEnd, there_is bytes rest (took ++ behind) split few ∙ ap (λ (t : List ℕ). input_steps t AtEnd) (append_assoc took behind rest) ∙ come (behind ++ rest) AtEnd)
+
+  first_reading : (b : Bool) → ComesFirst given (input_steps_of_source bytes rest b)
+  first_reading true = (steps_to_come at behind Failed, ap (λ (t : List ℕ). input_steps t Failed) (taken_is bytes (took ++ behind) rest split) ∙ come behind Failed)
+  first_reading false = first_bound (nat_le most_bytes (length (took ++ behind))) refl
+
+first_by : (reads : Bool) (at : Standing) (given : List LogStep) (bytes rest behind : List ℕ) (mid : Option (List ℕ)) (b : Bool) → is_reading at ≡ reads → (IsLost at → ⊥)
+    → StepsOn fresh at (Some bytes) mid given → mid ≡ prepend_known behind (Some rest) → (is_reading at ≡ false → (mid ≡ Some rest) × (b ≡ is_failed at))
+    → ComesFirst given (input_steps_of_source bytes rest b)
+first_by true at given bytes rest behind mid b runs there on from quiet =
+    let leads = on Anything 0 (record { after = refl; known = tt; count = refl }) in
+    let any : leads.follow ≡ Anything = reading_follow at leads.follow runs leads.at.after in
+    let split : bytes ≡ (leads.took ++ behind) ++ rest =
+    some_is bytes (leads.took ++ behind) rest (leads.left ∙ ap (prepend_known leads.took) from ∙ prepend_twice leads.took behind (Some rest)) in
+    first_reading at given bytes rest leads.took behind (λ more stop. leads.is more stop (subst (λ (f : Follow). MayFollow f more stop) (sym any) tt)) split b
+first_by false at given bytes rest behind mid b runs there on from quiet =
+    let still = quiet runs in
+    let here : StepsOn fresh at (Some bytes) (Some rest) given = subst (λ (k : Option (List ℕ)). StepsOn fresh at (Some bytes) k given) still.0 on in
+    let leads = here Anything 0 (record { after = refl; known = tt; count = refl }) in
+    let known : IsKnownBy leads.follow (Some rest) (length leads.took) = subst (λ (n : ℕ). IsKnownBy leads.follow (Some rest) n) (omega arith) leads.at.known in
+    let so = standing_so bytes rest leads.took leads.follow at (some_is bytes leads.took rest leads.left) leads.at.after known there in
+    (steps_to_come at so.0 so.1.0, ap (input_steps_of_source bytes rest) still.1 ∙ so.1.1.1 ∙ leads.is so.0 so.1.0 so.1.1.0)
+
+pub first_steps : (at : Standing) (given : List LogStep) (bytes rest behind : List ℕ) (mid : Option (List ℕ)) (b : Bool) → (IsLost at → ⊥)
+    → StepsOn fresh at (Some bytes) mid given → mid ≡ prepend_known behind (Some rest) → (is_reading at ≡ false → (mid ≡ Some rest) × (b ≡ is_failed at))
+    → ComesFirst given (input_steps_of_source bytes rest b)
+first_steps at given bytes rest behind mid b there on from quiet = first_by (is_reading at) at given bytes rest behind mid b refl there on from quiet

@@ -1,5 +1,5 @@
 -- How an import takes one step.
-use Rattle.std.proofs.Common.{◌≡◌, ℕ, ◌≤◌, Bool, true, false, ◌&&◌, ◌||◌, List, [], ◌∷◌, ◌++◌, Option, None, Some, Result, Ok, Err, IfOk, IfSome, IsSomeAnd, IsTrue, length, refl, ap, sym, ◌∙◌, subst, arith, length-append, nat_le}
+use Rattle.std.proofs.Common.{◌≡◌, ℕ, ◌≤◌, Bool, true, false, ◌&&◌, ◌||◌, List, [], ◌∷◌, ◌++◌, Option, None, Some, Result, Ok, Err, IfOk, IfSome, IsSomeAnd, IsTrue, length, refl, ap, sym, ◌∙◌, subst, arith, length-append, nat_le, inl, inr, ◌⊎◌}
 use Rattle.std.proofs.lemmas.Bool.Decides.{nat_tests}
 use Rattle.std.specs.List.{list_all}
 use Rattle.vast_value.specs.declared.cell.Cell.{Cell}
@@ -10,7 +10,6 @@ use Rattle.vast_value.proofs.HeadingLemmas.{fits_fields-map}
 use Rattle.vast_value.specs.Fit.{fits_columns}
 use Rattle.event_batch.specs.declared.batch.Batch.{Batch}
 use Rattle.event_batch.specs.Contents.{Content, content_of}
-use Rattle.vast_io.specs.Causes.{Rose}
 use Rattle.event_batch.specs.Sizes.{rows_fit}
 use Rattle.event_batch.proofs.ContentLemmas.{rows_fit_fields}
 use Rattle.zeek_log.specs.declared.step.Step.{Step}
@@ -21,12 +20,12 @@ use Rattle.importer.specs.declared.ends.ImportEnd.{ImportEnd}
 use Rattle.importer.specs.declared.ends.ImportEnd.TheVariants.{Fault, ReadFault, TooLong, Memory}
 use Rattle.importer.specs.declared.import.Turn.{Turn}
 use Rattle.importer.specs.declared.import.Turn.TheVariants as turn
-use Rattle.importer.specs.Coming.{BatchesOn, EndsAt, Ended, Goes, HasFaults, Importing, IsLastLayout, IsLost, IsReadFault, Sourced, Standing, Standpoint, StepsOn, Stays, batches_behind, batches_to_come, end_answer, heading_at, steps_given, steps_to_come}
+use Rattle.importer.specs.Coming.{BatchesOn, EndsAt, Ended, Goes, HasFaults, Importing, IsLastLayout, IsLost, Sourced, Standing, Standpoint, StepsOn, Stays, batches_behind, batches_to_come, end_answer, heading_at, steps_given, steps_to_come}
 use Rattle.importer.specs.Cutting.{batch_of, bounds_of, cell_bytes_of, cut_answers, is_full, most_cell_bytes, steps_behind}
 use Rattle.importer.specs.Ending.{Answers, ahead}
 use Rattle.importer.specs.Turns.{AreHeld, AreSince, EndTurn, HeadTurn, HeldFit, IsMemory, LineTurn, RowFits, TurnGoes, TurnGoing, TurnHolds}
 use Rattle.importer.proofs.CutLemmas.{end_closes, head_closes, head_comes, line_closes, line_comes, none_since, nothing_comes, row_since}
-use Rattle.importer.proofs.GoingLemmas.{goes_join, goes_lost, goes_seen, goes_stay, step_no_fault}
+use Rattle.importer.proofs.GoingLemmas.{faults_join, goes_join, goes_lost, goes_seen, goes_stay}
 
 abbrev pub import_at : ℕ → ℕ → Option Heading → Standing → Importing
 import_at n rows heading at = record { number = n; rows = rows; heading = heading; standing = at }
@@ -286,13 +285,10 @@ row_fits_in (Some h) heading row last fits = subst (λ (o : Option Heading). Row
 pub row_fits_by : (heading : Option Heading) (at new : Standing) (row : List Cell) → IsLastLayout heading at → StepFits (heading_at at) (heading_at new) (Line row) → RowFits heading row
 row_fits_by heading at new row last fits = row_fits_in (heading_at at) heading row last fits.0
 
-going_by : (t : Turn) (new : Standing) → (IsReadFault new → ⊥) → TurnGoing t new
-going_by turn.Goes new none = none
-going_by (turn.Closes layout) new none = tt
-going_by (turn.Ends end) new none = tt
-
-pub turn_going : (t : Turn) (before : Option Heading) (new : Standing) (x : LogStep) → StepFits before (heading_at new) x → TurnGoing t new
-turn_going t before new x fits = going_by t new (step_no_fault before new x fits)
+pub turn_going : (t : Turn) (new : Standing) → (IsLost new → ⊥) → TurnGoing t new
+turn_going turn.Goes new there = there
+turn_going (turn.Closes layout) new there = tt
+turn_going (turn.Ends end) new there = tt
 
 -- ---- a call, turn by turn
 
@@ -332,11 +328,14 @@ so_closes first mid new held held_now layout batch rows n a b c far goes source 
     (goes_join first.standing mid.standing new.standing (batches_to_come first) (batches_behind mid held) (batches_to_come new) (ahead [])
     (ahead (batch_of mid.number (heading_of layout) held_now ∷ [])) a b c far goes)
 
-pub faults_so : (first mid new : Standing) (x y z : ℕ) → (IsReadFault mid → IsReadFault first) → y ≡ x → HasFaults mid new y z → HasFaults first new x z
-faults_so first mid new x y z goes same faults = record {
-  failed = λ is other. subst (λ (n : ℕ). Rose n z) same (faults.failed is (λ at. other (goes at)));
-  kept = λ other. faults.kept other ∙ same;
-}
+-- nothing was done yet, or memory wasn't wanting so far
+abbrev pub FaultsFar : {V : Type 0} → (V → Standing) → V → V → ℕ → ℕ → Type 0
+FaultsFar {V} at first mid x y = ((mid ≡ first) × (y ≡ x)) ⊎ ((IsLost (at mid) → ⊥) × HasFaults (at first) (at mid) x y)
+
+pub faults_so : {V : Type 0} (at : V → Standing) (first mid new : V) (x y z : ℕ) → FaultsFar at first mid x y → HasFaults (at mid) (at new) y z → HasFaults (at first) (at new) x z
+faults_so {V = V} at first mid new x y z (inl still) faults =
+    subst (λ (v : V). HasFaults (at v) (at new) x z) still.0 (subst (λ (n : ℕ). HasFaults (at mid) (at new) n z) still.1 faults)
+faults_so at first mid new x y z (inr far) faults = faults_join (at first) (at mid) (at new) x y z far.0 far.1 faults
 
 goes_or_ends : (end : Option ImportEnd) → turn.Goes ≡ turn.Ends end → ⊥
 goes_or_ends end same = cc

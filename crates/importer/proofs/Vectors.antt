@@ -1,6 +1,6 @@
 -- What the definitions give at chosen places. Each is false where its definition is wrong.
-use Rattle.std.proofs.Common.{◌≡◌, ℕ, true, false, List, [], ◌∷◌, ◌+◌, None, Some, codes, length, map, refl, sym, subst, arith}
-use Rattle.source_block.specs.declared.stop.Stop.TheVariants.{AtEnd}
+use Rattle.std.proofs.Common.{◌≡◌, ℕ, pos, true, false, List, [], ◌∷◌, ◌+◌, None, Some, codes, length, map, refl, sym, subst, arith}
+use Rattle.source_block.specs.declared.stop.Stop.TheVariants.{AtEnd, Failed}
 use Rattle.vast_value.specs.declared.cell.Cell.{Cell}
 use Rattle.vast_value.specs.declared.cell.Cell.TheVariants.{Unset, One, Many}
 use Rattle.vast_value.specs.declared.kind.Elem.TheVariants as elem
@@ -14,15 +14,26 @@ use Rattle.event_batch.specs.Contents.{Content}
 use Rattle.zeek_log.specs.declared.step.ZeekEnd.TheVariants as log
 use Rattle.zeek_log.specs.declared.fault.ZeekFault.TheVariants.{BadCell}
 use Rattle.zeek_log.specs.Table.{Head, Line}
+use Rattle.pcap_packet.specs.Packets.{parts_of}
+use Rattle.pcap_flow.specs.Groups.{groups_after}
+use Rattle.pcap_flow.specs.Rows.{flow_heading, flow_rows_of, packet_heading, packet_row}
+use Rattle.pcap_file.specs.declared.end.CaptureFault.TheVariants.{ShortHead, ShortRecord}
+use Rattle.pcap_file.specs.declared.end.PcapEnd.TheVariants as capture
+use Rattle.pcap_file.specs.declared.record.Captured.{Captured}
+use Rattle.pcap_file.specs.Records as capture_list
+use Rattle.importer.specs.declared.ends.FormFault.TheVariants.{Compressed, Pcapng}
+use Rattle.importer.specs.declared.form.Form.TheVariants.{Log, Capture, Refused}
 use Rattle.importer.specs.declared.ends.ImportEnd.TheVariants.{Fault, ReadFault, TooLong, Memory}
 use Rattle.importer.specs.declared.ends.InputFault.TheVariants as input
 use Rattle.importer.specs.declared.ends.How.TheVariants as how
+use Rattle.importer.specs.Captures.{packet_of, packets_of, plain_steps}
+use Rattle.importer.specs.Forms.{begins_with, form_of, gzip, is_capture, micro_big, micro_little, nano_big, nano_little, pcapng}
 use Rattle.importer.specs.Carrying.{carried, carried_cell, carried_cells, cell_transport, is_port_kind, is_protocol_name, is_text_kind, protocol_place, row_transport, transport_named}
 use Rattle.importer.specs.Coming.{Anything, Ended, Follow, IsKnownBy, IsLost, IsReadFault, MayFollow, Nothing, StepsOn, fresh, steps_left, steps_to_come}
 use Rattle.importer.specs.Cutting.{Bounds, behind, bounds_of, cut_answers, cut_by}
-use Rattle.importer.specs.Ending.{end_of_log, how_ended, only_end}
+use Rattle.importer.specs.Ending.{end_of_capture, end_of_log, how_ended, only_end}
 use Rattle.importer.specs.Laws.{is_read_fault, rows_in}
-use Rattle.importer.specs.Steps.{carried_answers, carried_steps}
+use Rattle.importer.specs.Steps.{capture_steps, carried_answers, carried_steps, input_steps, steps_as, taken_steps}
 
 -- Ends
 
@@ -31,6 +42,56 @@ ends = refl
 
 ways : map how_ended (None ∷ Some (Fault (input.Line 3 2 BadCell)) ∷ Some ReadFault ∷ Some TooLong ∷ Some Memory ∷ []) ≡ (how.Done ∷ how.Fault (input.Line 3 2 BadCell) ∷ how.ReadFault ∷ how.TooLong ∷ how.Memory ∷ [])
 ways = refl
+
+ends_of_captures : map end_of_capture (capture.Done ∷ capture.Fault 184 ShortRecord ∷ capture.ReadFault ∷ capture.TooLong ∷ capture.Memory ∷ []) ≡ (None ∷ Some (Fault (input.Place 184 ShortRecord)) ∷ Some ReadFault ∷ Some TooLong ∷ Some Memory ∷ [])
+ends_of_captures = refl
+
+-- Forms
+
+first_bytes : (gzip ∷ pcapng ∷ micro_big ∷ micro_little ∷ nano_big ∷ nano_little ∷ [])
+    ≡ ((31 ∷ 139 ∷ []) ∷ (10 ∷ 13 ∷ 13 ∷ 10 ∷ []) ∷ (161 ∷ 178 ∷ 195 ∷ 212 ∷ []) ∷ (212 ∷ 195 ∷ 178 ∷ 161 ∷ []) ∷ (161 ∷ 178 ∷ 60 ∷ 77 ∷ []) ∷ (77 ∷ 60 ∷ 178 ∷ 161 ∷ []) ∷ [])
+first_bytes = refl
+
+beginnings : map (λ bytes. begins_with bytes (31 ∷ 139 ∷ [])) ((31 ∷ 139 ∷ 8 ∷ []) ∷ (31 ∷ 139 ∷ []) ∷ (31 ∷ []) ∷ (139 ∷ 31 ∷ []) ∷ []) ≡ (true ∷ true ∷ false ∷ false ∷ [])
+beginnings = refl
+
+captures : map is_capture ((161 ∷ 178 ∷ 60 ∷ 77 ∷ 0 ∷ []) ∷ (212 ∷ 195 ∷ 178 ∷ 161 ∷ []) ∷ (161 ∷ 178 ∷ 60 ∷ []) ∷ (161 ∷ 178 ∷ 60 ∷ 212 ∷ []) ∷ []) ≡ (true ∷ true ∷ false ∷ false ∷ [])
+captures = refl
+
+forms : map form_of ((31 ∷ 139 ∷ 8 ∷ []) ∷ (10 ∷ 13 ∷ 13 ∷ 10 ∷ []) ∷ (77 ∷ 60 ∷ 178 ∷ 161 ∷ 2 ∷ []) ∷ codes "#path" ∷ (10 ∷ 13 ∷ 13 ∷ []) ∷ (31 ∷ []) ∷ [] ∷ [])
+    ≡ (Refused Compressed ∷ Refused Pcapng ∷ Capture ∷ Log ∷ Log ∷ Log ∷ Log ∷ [])
+forms = refl
+
+an_unread_form_has_no_step : (steps_as (Refused Pcapng) (codes "x") AtEnd ≡ only_end (Some (Fault (input.Form Pcapng)))) × (input_steps (31 ∷ 139 ∷ []) AtEnd ≡ only_end (Some (Fault (input.Form Compressed))))
+an_unread_form_has_no_step = (refl, refl)
+
+-- Steps of captures
+
+abbrev record_read : Captured
+record_read = record { time = pos 7; captured = 0; original = 60; link = 1; bytes = [] }
+
+abbrev read : capture_list.Answers
+read = record { records = record_read ∷ []; last = capture.Done }
+
+a_record_is_a_packet : packet_of record_read ≡ record { time = pos 7; captured = 0; original = 60; parts = parts_of 1 [] }
+a_record_is_a_packet = refl
+
+each_record_is_one : packets_of read ≡ packet_of record_read ∷ []
+each_record_is_one = refl
+
+flows_stand_behind_packets : plain_steps (packet_of record_read ∷ []) ≡ (Head packet_heading ∷ Line (packet_row (packet_of record_read)) ∷ Head flow_heading ∷ map Line (flow_rows_of (packet_of record_read ∷ [])))
+flows_stand_behind_packets = refl
+
+a_capture_without_its_head_has_no_step : capture_steps false (record { records = []; last = capture.Fault 4 ShortHead }) ≡ only_end (Some (Fault (input.Place 4 ShortHead)))
+a_capture_without_its_head_has_no_step = refl
+
+a_capture_without_packets_has_two_heads : capture_steps true (record { records = []; last = capture.ReadFault }) ≡ record { given = Head packet_heading ∷ Head flow_heading ∷ []; end = Some ReadFault }
+unfolding groups_after
+a_capture_without_packets_has_two_heads = refl
+
+-- a failed read leaves the steps of what was taken, and else they are those of all bytes
+taken : (taken_steps (codes "ab") (codes "a") true ≡ input_steps (codes "a") Failed) × (taken_steps (codes "ab") (codes "a") false ≡ input_steps (codes "ab") AtEnd)
+taken = (refl, refl)
 
 -- Carrying
 
@@ -110,7 +171,7 @@ answers = refl
 at_the_start : steps_to_come fresh (codes "") AtEnd ≡ only_end None
 at_the_start = refl
 
-lines_at_the_start : steps_left fresh ≡ 68719476737
+lines_at_the_start : steps_left fresh ≡ 68719476738
 lines_at_the_start = refl
 
 -- Cutting. A row of one set bool has 2 bytes.

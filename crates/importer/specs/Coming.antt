@@ -1,15 +1,19 @@
 -- What is still to come of an input by the bytes that its source still gives, and how an answer leads from there to here.
-use Rattle.std.specs.Prelude.{◌≡◌, ℕ, ◌+◌, List, [], ◌∷◌, ◌++◌, Option, None, Some, Result, Ok, Err, IfSome, length, ◌⊎◌}
+use Rattle.std.specs.Prelude.{◌≡◌, ℕ, ◌+◌, ◌-◌, ◌*◌, ◌^◌, Bool, true, false, if◌then◌else◌, List, [], ◌∷◌, ◌++◌, Option, None, Some, Result, Ok, Err, IfSome, IsSome, length, ◌⊎◌}
 use Rattle.std.specs.Io.KnownBytes.{prepend_known}
 use Rattle.vast_io.specs.Causes.{Rose}
 use Rattle.vast_value.specs.declared.cell.Cell.{Cell}
 use Rattle.vast_value.specs.Headings.{Field, Heading}
 use Rattle.source_block.specs.declared.stop.Stop.{Stop}
 use Rattle.source_block.specs.declared.stop.Stop.TheVariants.{AtEnd, Failed, AtBound}
+use Rattle.source_block.specs.Holding.{most_bytes}
 use Rattle.source_block.specs.Taking.{Stops}
+use Rattle.pcap_file.specs.declared.reader.Phase.{Phase}
+use Rattle.pcap_file.specs.declared.reader.Phase.TheVariants.{Ended as CaptureEnded}
+use Rattle.pcap_file.specs.Reading as capture
+use Rattle.pcap_file.specs.Reading.{HoldsRecord, is_headed, is_open}
 use Rattle.zeek_log.specs.Finding.{HoldsRow}
 use Rattle.zeek_log.specs.Going.{lines_left}
-use Rattle.zeek_log.specs.Heads.{opening}
 use Rattle.zeek_log.specs.Reader.{Reading, State, heading_told, heading_or_none, to_come}
 use Rattle.zeek_log.specs.Reader.{Reads as StateReads, Last as StateLast, Ended as StateEnded}
 use Rattle.zeek_log.specs.Steps.{step_of}
@@ -21,29 +25,45 @@ use Rattle.event_batch.specs.declared.batch.Batch.{Batch}
 use Rattle.event_batch.specs.Contents.{Content, content_of}
 use Rattle.importer.specs.declared.ends.ImportEnd.{ImportEnd}
 use Rattle.importer.specs.declared.ends.ImportEnd.TheVariants.{Fault, ReadFault, TooLong, Memory}
-use Rattle.importer.specs.Ending.{Answers, ahead, end_of_log, only_end}
-use Rattle.importer.specs.Steps.{carried_answers}
+use Rattle.importer.specs.Captures.{FlowsAt, PacketsAt, flows_heading, flows_to_come, given_row, head_or_none, packet_steps, packets_heading}
+use Rattle.importer.specs.Ending.{Answers, ahead, end_of_capture, end_of_log, only_end}
+use Rattle.importer.specs.Steps.{capture_steps, carried_answers, input_steps}
 use Rattle.importer.specs.Cutting.{cut_answers, steps_behind}
 
--- A log is read, or nothing but an end is to come.
+-- Nothing was read, a log is read, or a capture: its packets and behind them its flows; or nothing but an end is to come.
 pub data Standing : Type 0 where
+  Fresh : Standing
   Log : Reading → Standing
+  Packets : PacketsAt → Standing
+  Flows : FlowsAt → Standing
   Ended : Option ImportEnd → Standing
 
 -- before anything was read
 abbrev pub fresh : Standing
-fresh = Log (record { state = StateReads opening 1; held = []; taken = 0; kept = 65536 })
+fresh = Fresh
 
 -- the heading of the last head, as long as its rows may come
 abbrev pub heading_at : Standing → Option Heading
+heading_at Fresh = None
 heading_at (Log r) = heading_told r.state
+heading_at (Packets p) = packets_heading p.reader.phase
+heading_at (Flows f) = Some (flows_heading f)
 heading_at (Ended end) = None
 
 abbrev pub fields_told : Option Heading → List Field
 fields_told heading = (heading_or_none heading).fields
 
+-- the steps still to come of a capture's packets and flows, by how far the reader of its records is
+abbrev pub packets_to_come : PacketsAt → List ℕ → Stop → Answers LogStep
+packets_to_come p bytes stop =
+    if is_headed p.reader.phase then packet_steps p.first p.flows (capture.to_come p.reader bytes stop)
+    else capture_steps (capture.headed_by p.reader.phase (p.reader.held ++ bytes)) (capture.to_come p.reader bytes stop)
+
 -- the steps still to come by the bytes that the source still gives, after which no more come for the reason
 abbrev pub steps_to_come : Standing → List ℕ → Stop → Answers LogStep
+steps_to_come Fresh bytes stop = input_steps bytes stop
+steps_to_come (Packets p) bytes stop = packets_to_come p bytes stop
+steps_to_come (Flows f) bytes stop = flows_to_come f
 steps_to_come (Log r) bytes stop = carried_answers (fields_told (heading_told r.state)) (to_come r bytes stop)
 steps_to_come (Ended end) bytes stop = only_end end
 
@@ -105,6 +125,9 @@ IsAfterState (StateLast told) follow = follow ≡ Nothing AtEnd
 IsAfterState (StateEnded end) follow = IsAfterEnd (end_of_log end) follow
 
 abbrev pub IsAfter : Standing → Follow → Type 0
+IsAfter Fresh follow = follow ≡ Anything
+IsAfter (Packets p) follow = (follow ≡ Anything) × (is_open p.reader.phase ≡ true)
+IsAfter (Flows f) follow = IsAfterEnd f.end follow
 IsAfter (Log r) follow = IsAfterState r.state follow
 IsAfter (Ended end) follow = IsAfterEnd end follow
 
@@ -115,6 +138,9 @@ IsKnownBy (Nothing why) left taken = Stops why left taken
 IsKnownBy Lost left taken = Unit {0}
 
 abbrev pub IsCounted : Standing → ℕ → Type 0
+IsCounted Fresh taken = taken ≡ 0
+IsCounted (Packets p) taken = p.reader.taken ≡ taken
+IsCounted (Flows f) taken = Unit {0}
 IsCounted (Log r) taken = r.taken ≡ taken
 IsCounted (Ended end) taken = Unit {0}
 
@@ -165,10 +191,12 @@ abbrev pub moves_given : {E : Type 0} → Standing → List Cell → Result (Opt
 moves_given at row (Ok (Some moved)) = step_at at row moved ∷ []
 moves_given at row _ = []
 
--- a whole data line is among the bytes held
-abbrev pub HoldsLine : Standing → Type 0
-HoldsLine (Log r) = HoldsRow r.held
-HoldsLine (Ended end) = ⊥
+-- the next step is a row, and takes nothing of the source, or nothing is taken of it any more
+abbrev pub HoldsNext : Standing → Type 0
+HoldsNext (Log r) = HoldsRow r.held
+HoldsNext (Packets p) = IsSome p.first ⊎ HoldsRecord p.reader
+HoldsNext (Flows f) = Unit {0}
+HoldsNext _ = ⊥
 
 -- the answer where nothing but an end is to come
 abbrev pub end_answer : {X : Type 0} → Option ImportEnd → Result (Option X) ImportEnd
@@ -186,8 +214,15 @@ abbrev pub IsLostState : State → Type 0
 IsLostState (StateEnded end) = Unit {0}
 IsLostState state = ⊥
 
--- want of memory is all that is to come, or a log's end was given and is not kept
+abbrev pub IsLostPhase : Phase → Type 0
+IsLostPhase (CaptureEnded end headed) = Unit {0}
+IsLostPhase phase = ⊥
+
+-- want of memory is all that is to come, or a reader's end was given and is not kept
 abbrev pub IsLost : Standing → Type 0
+IsLost Fresh = ⊥
+IsLost (Packets p) = IsLostPhase p.reader.phase
+IsLost (Flows f) = IsLostEnd f.end
 IsLost (Log r) = IsLostState r.state
 IsLost (Ended end) = IsLostEnd end
 
@@ -209,18 +244,54 @@ abbrev pub IsReadFaultState : State → Type 0
 IsReadFaultState (StateEnded end) = IsReadFaultEnd (end_of_log end)
 IsReadFaultState _ = ⊥
 
--- a failed read is the end
+abbrev pub IsReadFaultPhase : Phase → Type 0
+IsReadFaultPhase (CaptureEnded end headed) = IsReadFaultEnd (end_of_capture end)
+IsReadFaultPhase _ = ⊥
+
+-- a failed read is the end, also where steps are still to come before it
 abbrev pub IsReadFault : Standing → Type 0
+IsReadFault Fresh = ⊥
+IsReadFault (Packets p) = IsReadFaultPhase p.reader.phase
+IsReadFault (Flows f) = IsReadFaultEnd f.end
 IsReadFault (Log r) = IsReadFaultState r.state
 IsReadFault (Ended end) = IsReadFaultEnd end
 
--- the source's count of faults rose exactly where a failed read is now the end and was not before
+-- The source's count of faults rose exactly where a failed read is now the end and was not before, or memory was wanting
+-- behind one. A failed read stays the end, and nothing is read behind it.
 pub record HasFaults (old new : Standing) (before now : ℕ) : Type 0 where
   pub failed : IsReadFault new → ¬ IsReadFault old → Rose before now
-  pub kept : ¬ IsReadFault new → now ≡ before
+  pub kept : ¬ IsReadFault new → ¬ IsLost new → now ≡ before
+  pub again : IsReadFault old → now ≡ before
+  pub lasts : IsReadFault old → ¬ IsLost new → IsReadFault new
 
--- each step takes a line, and there are no more lines than this
+abbrev pub reads_on : State → Bool
+reads_on (StateReads told n) = true
+reads_on _ = false
+
+-- more of the source may be taken before the next step is given
+abbrev pub is_reading : Standing → Bool
+is_reading Fresh = true
+is_reading (Packets p) = true
+is_reading (Flows f) = false
+is_reading (Log r) = reads_on r.state
+is_reading (Ended end) = false
+
+-- else nothing of it is taken, and no read fails
+abbrev pub IsQuiet : Standing → Option (List ℕ) → Option (List ℕ) → ℕ → ℕ → Type 0
+IsQuiet at left left_now faults faults_now = is_reading at ≡ false → (left_now ≡ left) × (faults_now ≡ faults)
+
+-- at most so many rows and heads of a capture are still to come, where it has at most 2^32 records
+abbrev pub packets_left : PacketsAt → ℕ
+packets_left p = 3 * (2 ^ 32 - p.reader.given) + length (given_row p.first) + length p.flows + 2
+
+abbrev pub rows_left : FlowsAt → ℕ
+rows_left f = length (head_or_none f.told) + length f.rows
+
+-- each step takes a line, a record, a head or a flow, and there are no more of them than this
 abbrev pub steps_left : Standing → ℕ
+steps_left Fresh = most_bytes + 2
+steps_left (Packets p) = packets_left p
+steps_left (Flows f) = rows_left f
 steps_left (Log r) = lines_left r.state
 steps_left (Ended end) = 0
 

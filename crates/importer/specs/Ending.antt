@@ -2,9 +2,11 @@
 use Rattle.std.specs.Prelude.{List, [], ◌++◌, Option, None, Some}
 use Rattle.zeek_log.specs.declared.step.ZeekEnd.{ZeekEnd}
 use Rattle.zeek_log.specs.declared.step.ZeekEnd.TheVariants as log
+use Rattle.pcap_file.specs.declared.end.PcapEnd.{PcapEnd}
+use Rattle.pcap_file.specs.declared.end.PcapEnd.TheVariants as capture
 use Rattle.importer.specs.declared.ends.ImportEnd.{ImportEnd}
 use Rattle.importer.specs.declared.ends.ImportEnd.TheVariants.{Fault, ReadFault, TooLong, Memory}
-use Rattle.importer.specs.declared.ends.InputFault.TheVariants.{Line}
+use Rattle.importer.specs.declared.ends.InputFault.TheVariants.{Line, Place}
 use Rattle.importer.specs.declared.ends.How.{How}
 use Rattle.importer.specs.declared.ends.How.TheVariants as how
 
@@ -15,6 +17,14 @@ end_of_log (log.Fault n column what) = Some (Fault (Line n column what))
 end_of_log log.ReadFault = Some ReadFault
 end_of_log log.TooLong = Some TooLong
 end_of_log log.Memory = Some Memory
+
+-- how a capture's end is told of an input
+abbrev pub end_of_capture : PcapEnd → Option ImportEnd
+end_of_capture capture.Done = None
+end_of_capture (capture.Fault offset what) = Some (Fault (Place offset what))
+end_of_capture capture.ReadFault = Some ReadFault
+end_of_capture capture.TooLong = Some TooLong
+end_of_capture capture.Memory = Some Memory
 
 -- how a source went whose end is this
 abbrev pub how_ended : Option ImportEnd → How

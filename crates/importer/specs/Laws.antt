@@ -4,7 +4,7 @@ use Rattle.vast_value.specs.declared.cell.Cell.{Cell}
 use Rattle.zeek_log.specs.Table.{LogStep, Head, Line}
 use Rattle.importer.specs.declared.ends.ImportEnd.{ImportEnd}
 use Rattle.importer.specs.declared.ends.ImportEnd.TheVariants.{ReadFault}
-use Rattle.importer.specs.Coming.{Ended, Importing, Log, Standing, fresh}
+use Rattle.importer.specs.Coming.{Ended, Flows, Importing, Standing, fresh}
 use Rattle.importer.specs.Ending.{Answers, ahead}
 
 -- all rows of the steps, in order
@@ -33,10 +33,11 @@ abbrev pub is_read_fault : Option ImportEnd → Bool
 is_read_fault (Some ReadFault) = true
 is_read_fault _ = false
 
--- a failed read is the end
+-- a failed read is the end, also where steps are still to come before it
 abbrev pub is_failed : Standing → Bool
-is_failed (Log r) = false
+is_failed (Flows f) = is_read_fault f.end
 is_failed (Ended end) = is_read_fault end
+is_failed _ = false
 
 -- these are the first of all that is given
 abbrev pub ComesFirst : {X : Type 0} → List X → Answers X → Type 0

@@ -1,9 +1,12 @@
+pub mod Captures
 pub mod Carrying
 pub mod Coming
 pub mod Cutting
 pub mod Ending
+pub mod Forms
 pub mod Inputs
 pub mod Logs
+pub mod Reads
 pub mod Steps
 pub mod Turns
 pub mod Laws

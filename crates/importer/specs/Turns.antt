@@ -7,7 +7,7 @@ use Rattle.event_batch.specs.Sizes.{rows_fit}
 use Rattle.importer.specs.declared.ends.ImportEnd.{ImportEnd}
 use Rattle.importer.specs.declared.import.Turn.{Turn}
 use Rattle.importer.specs.declared.import.Turn.TheVariants as turn
-use Rattle.importer.specs.Coming.{Importing, Standing, Ended, Goes, IsLost, IsReadFault, batches_behind, batches_to_come, steps_left}
+use Rattle.importer.specs.Coming.{Importing, Standing, Ended, Goes, IsLost, batches_behind, batches_to_come, steps_left}
 use Rattle.importer.specs.Cutting.{batch_of, bounds_of, cell_bytes_of, is_full, most_cell_bytes, pieces_since}
 use Rattle.importer.specs.Ending.{ahead}
 
@@ -42,9 +42,9 @@ TurnHolds (turn.Closes layout) new held =
     (rows_fit layout held ≡ true) × (1 ≤ length held) × (length held ≤ new.rows) × ¬ IsLost new.standing
 TurnHolds (turn.Ends end) new held = new.standing ≡ Ended end
 
--- a step was taken, so no end is all that is to come
+-- a step was taken, so memory wasn't wanting
 abbrev pub TurnGoing : Turn → Standing → Type 0
-TurnGoing turn.Goes new = ¬ IsReadFault new
+TurnGoing turn.Goes new = ¬ IsLost new
 TurnGoing _ new = Unit {0}
 
 abbrev pub TurnLess : Turn → Standing → Standing → List (List Cell) → List (List Cell) → Type 0

@@ -83,6 +83,31 @@ pub(crate) fn carry(alloc: Global, protocol: Option<usize>, row: Row) -> Result<
     }
 }
 
+/// A copy of the row, carried by the columns whose protocol stands at this place.
+#[tactic(auto, using(crate::proofs::CarryLemmas::carry_is, crate::proofs::CarryLemmas::carry_none))]
+pub(crate) fn carried_copy(
+    alloc: Global,
+    protocol: Option<usize>,
+    cells: &[Cell],
+) -> Result<Row, AllocError>
+    ensures carried { IfOk result (λ new. (fields : List Field) → protocol ≡ protocol_place fields → fits_fields fields cells.now ≡ true → new ≡ carried fields cells.now) }
+{
+    match transport_at(protocol, cells) {
+        Transport::Unknown => duplicate(alloc, cells),
+        over => carry_over(alloc, over, cells),
+    }
+}
+
+fn duplicate(alloc: Global, cells: &[Cell]) -> Result<Row, AllocError>
+    ensures { IfOk result (λ row. row ≡ cells.now) }
+{
+    let mut row = Row::with_capacity(alloc, cells.len())?;
+    for cell in cells {
+        row.push(cell.duplicate(alloc)?)?;
+    }
+    Ok(row)
+}
+
 fn transport_at(protocol: Option<usize>, row: &[Cell]) -> Transport
     ensures { result ≡ transport_at protocol row.now }
 {

@@ -1,7 +1,11 @@
 //! How an input ends.
 ghost use Rattle.std.specs.Prelude.{◌≡◌};
-ghost use Rattle.importer.specs.Ending.{end_of_log, how_ended};
+ghost use Rattle.importer.specs.declared.ends.ImportEnd.TheVariants.{Memory};
+ghost use Rattle.importer.specs.Coming.{end_answer};
+ghost use Rattle.importer.specs.Ending.{end_of_capture, end_of_log, how_ended};
 
+use pcap_file::{CaptureFault, PcapEnd};
+use std::alloc::AllocError;
 use vast_value::Bytes;
 use zeek_log::{ZeekEnd, ZeekFault};
 
@@ -14,6 +18,22 @@ pub enum InputFault {
         column: u32,
         what: ZeekFault,
     },
+    /// A capture is wrong at a byte of the file, counted from 0.
+    Place {
+        offset: u64,
+        what: CaptureFault,
+    },
+    /// It has a form that isn't read.
+    Form(FormFault),
+}
+
+/// A form that isn't read, known by an input's first bytes.
+#[derive(Clone, Copy, Debug, PartialEq, Eq)]
+pub enum FormFault {
+    /// A file of gzip: `1f 8b`.
+    Compressed,
+    /// A capture of the form pcapng: `0a 0d 0d 0a`.
+    Pcapng,
 }
 
 /// Why no more of an input comes, though not all of it was given. Once given, it is given again.
@@ -27,6 +47,14 @@ pub enum ImportEnd {
     TooLong,
     /// No memory was left.
     Memory,
+}
+
+impl From<AllocError> for ImportEnd {
+    ghost from_gives = { λ _ end. end ≡ Memory };
+
+    fn from(_error: AllocError) -> ImportEnd {
+        ImportEnd::Memory
+    }
 }
 
 /// How a source went.
@@ -89,5 +117,30 @@ pub(crate) fn end_of_log(end: ZeekEnd) -> Option<ImportEnd>
         ZeekEnd::ReadFault => Some(ImportEnd::ReadFault),
         ZeekEnd::TooLong => Some(ImportEnd::TooLong),
         ZeekEnd::Memory => Some(ImportEnd::Memory),
+    }
+}
+
+/// How a capture's end is told of an input: `None` where all of it was given.
+pub(crate) fn end_of_capture(end: PcapEnd) -> Option<ImportEnd>
+    ensures { result ≡ end_of_capture end }
+{
+    match end {
+        PcapEnd::Done => None,
+        PcapEnd::Fault { offset, what } => {
+            Some(ImportEnd::Fault(InputFault::Place { offset, what }))
+        }
+        PcapEnd::ReadFault => Some(ImportEnd::ReadFault),
+        PcapEnd::TooLong => Some(ImportEnd::TooLong),
+        PcapEnd::Memory => Some(ImportEnd::Memory),
+    }
+}
+
+/// What is answered where nothing but an end is to come.
+pub(crate) fn end_answer<X>(end: Option<ImportEnd>) -> Result<Option<X>, ImportEnd>
+    ensures { result ≡ end_answer end }
+{
+    match end {
+        None => Ok(None),
+        Some(end) => Err(end),
     }
 }

@@ -1,6 +1,7 @@
 //! The importer: inputs to batches.
 //!
-//! An [`Input`] gives the steps of a source, each row carried: its ports get the transport that its protocol names. A
+//! An [`Input`] gives the steps of a source, a log or a capture by its first bytes, each row carried: its ports get the
+//! transport that its protocol names. The steps of a capture are its packets, and behind them its flows. A
 //! [`Place`] is the step at which it stands, whose row is not made where that isn't needed. An
 //! [`Import`] cuts these steps into batches. Contracts see what is still to come of either by the bytes that its source
 //! still gives, and the source itself.
@@ -9,17 +10,20 @@
 mod carrying;
 mod current;
 mod ends;
+mod flows;
+mod form;
 mod gathered;
 mod import;
 mod input;
 mod laws;
 mod log;
+mod packets;
 mod place;
 #[cfg(test)]
 mod tests;
 
 pub use carrying::carried;
-pub use ends::{How, ImportEnd, InputFault, SourceEnd};
+pub use ends::{FormFault, How, ImportEnd, InputFault, SourceEnd};
 pub use import::Import;
 pub use input::Input;
 pub use laws::{

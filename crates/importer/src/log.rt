@@ -1,18 +1,21 @@
 //! The steps of a log, each row carried.
-ghost use Rattle.std.specs.Prelude.{◌≡◌, ◌<◌, ◌++◌, ◌∷◌, List, [], ℕ, None, Ok, Option, Some, false, is_some, IfOk, IsTrue, MatchOption, OnOk};
+ghost use Rattle.std.specs.Prelude.{◌≡◌, ◌<◌, ◌≤◌, ◌++◌, ◌∷◌, List, [], ℕ, None, Ok, Option, Some, false, is_some, IfOk, IsTrue, MatchOption, OnOk, length};
 ghost use Rattle.std.specs.List.{flat_map};
+ghost use Rattle.source_block.specs.Holding.{most_bytes};
 ghost use Rattle.value_text.specs.Writing.{cell_text};
 ghost use Rattle.vast_value.specs.Headings.{heading_of};
-ghost use Rattle.zeek_log.specs.Finding.{HoldsRow};
+ghost use Rattle.zeek_log.specs.Finding.{HoldsRow, most_kept};
 ghost use Rattle.zeek_log.specs.Going.{lines_left};
-ghost use Rattle.zeek_log.specs.Reader.{StepFits, StepHas, heading_told, step_at};
+ghost use Rattle.zeek_log.specs.Heads.{opening};
+ghost use Rattle.zeek_log.specs.Reader.{Reads, StepFits, StepHas, heading_told, step_at};
 ghost use Rattle.zeek_log.specs.Steps.{step_of};
 ghost use Rattle.zeek_log.specs.Table.{Line};
-ghost use Rattle.importer.specs.Coming.{HasFaults, Log, Standing, StepsOn, fresh};
+ghost use Rattle.importer.specs.Coming.{HasFaults, IsLost, IsQuiet, Log, Standing, StepsOn};
 ghost use Rattle.importer.specs.Logs.{LogGoes, LogMoves, log_after};
 
 use crate::carrying::{carry, protocol_place};
 use crate::current::{cell_of, columns_of, transport_of, write_carried};
+use source_block::Block;
 use std::alloc::{AllocError, Global};
 use std::marker::Model;
 use vast_io::Source;
@@ -39,11 +42,14 @@ impl Model for LogReader {
 }
 
 impl LogReader {
-    /// A reader that has read nothing.
-    pub fn new(alloc: Global) -> Result<Self, AllocError>
-        ensures { IfOk result (λ log. (Log log.at ≡ fresh) × (log.row ≡ [])) }
+    /// A reader that has read no line. The block holds all bytes that were taken of its source so far.
+    pub fn with_block(alloc: Global, block: Block) -> Result<Self, AllocError>
+        requires all { block.taken ≡ length block.bytes }
+        requires bound { block.taken ≤ most_bytes }
+        requires kept { block.kept ≤ most_kept }
+        ensures { IfOk result (λ log. log ≡ record { at = record { state = Reads opening 1; held = block.bytes; taken = block.taken; kept = block.kept }; row = [] }) }
     {
-        let reader = ZeekReader::new(alloc)?;
+        let reader = ZeekReader::with_block(alloc, block)?;
         Ok(LogReader {
             reader,
             protocol: None,
@@ -74,6 +80,8 @@ impl LogReader {
         ensures next { IsTrue result → (left : Option (List ℕ)) → LogMoves self.old self.new left left (Ok Moved.Line) }
         ensures has { IsTrue result → StepHas (heading_told self.old.at.state) (heading_told self.new.at.state) (Line self.new.row) }
         ensures less { IsTrue result → lines_left self.new.at.state < lines_left self.old.at.state }
+        ensures faults { IsTrue result → (count : ℕ) → HasFaults (Log self.old.at) (Log self.new.at) count count }
+        ensures there { IsTrue result → ¬ IsLost (Log self.new.at) }
         ensures stays { result ≡ false → self.new ≡ record { at = self.old.at; row = [] } }
     {
         self.reader.advance_in_place()
@@ -89,6 +97,7 @@ impl LogReader {
         ensures faults { HasFaults (Log self.old.at) (log_after self.new.at result) (S.faults source.old) (S.faults source.new) }
         ensures has { IfOk result (λ moved. StepHas (heading_told self.old.at.state) (heading_told self.new.at.state) (step_at self.new moved)) }
         ensures tells { is_some (S.left source.new) ≡ is_some (S.left source.old) }
+        ensures quiet { IsQuiet (Log self.old.at) (S.left source.old) (S.left source.new) (S.faults source.old) (S.faults source.new) }
         ensures less { OnOk result (lines_left self.new.at.state < lines_left self.old.at.state) }
     {
         match self.reader.advance_by_reading(alloc, source)? {

@@ -9,7 +9,8 @@ ghost use Rattle.importer.specs.Inputs.{row_of, standing_of};
 use crate::input::Phase;
 use std::alloc::{AllocError, Global};
 use std::marker::Model;
-use vast_value::{Bytes, Layout, PlainNumber, RowView, SeenCell};
+use value_text::write_cell;
+use vast_value::{Bytes, Layout, PlainNumber, Row, RowView, SeenCell};
 
 /// The step at which an input stands, without its source. It is seen as the row at which the input stands, one without cells
 /// where it stands at none. Contracts see where the input stands and that row.
@@ -41,6 +42,8 @@ impl<'a> Place<'a> {
     {
         match self.phase {
             Phase::Log(log) => log.layout(),
+            Phase::Packets(packets) => packets.layout(),
+            Phase::Flows(flows) => Some(flows.layout()),
             _ => None,
         }
     }
@@ -51,6 +54,8 @@ impl<'a> Place<'a> {
     {
         match self.phase {
             Phase::Log(log) => log.write_row(self.alloc, out),
+            Phase::Packets(packets) => write_made(packets.row(), out),
+            Phase::Flows(flows) => write_made(flows.row(), out),
             _ => Ok(()),
         }
     }
@@ -62,6 +67,8 @@ impl RowView for Place<'_> {
     fn cell(&self, alloc: Global, column: usize) -> Result<Option<SeenCell<'_>>, AllocError> {
         match self.phase {
             Phase::Log(log) => log.cell(alloc, column),
+            Phase::Packets(packets) => packets.row().cell(alloc, column),
+            Phase::Flows(flows) => flows.row().cell(alloc, column),
             _ => Ok(None),
         }
     }
@@ -69,7 +76,20 @@ impl RowView for Place<'_> {
     fn plain_number(&self, column: usize) -> Option<PlainNumber> {
         match self.phase {
             Phase::Log(log) => log.plain_number(column),
+            Phase::Packets(packets) => packets.row().plain_number(column),
+            Phase::Flows(flows) => flows.row().plain_number(column),
             _ => None,
         }
     }
+}
+
+/// Puts the cells of a row behind what `out` holds, each as it is written and behind a tab.
+fn write_made(row: &Row, out: &mut Bytes) -> Result<(), AllocError>
+    ensures { OnOk result (out.new ≡ out.old ++ flat_map (λ x. 9 ∷ cell_text x) row.now) }
+{
+    for cell in row.as_slice() {
+        out.push(b'\t')?;
+        write_cell(cell, out)?;
+    }
+    Ok(())
 }

@@ -1,33 +1,30 @@
 -- How far a report of an input has come.
-use Rattle.std.proofs.Common.{◌≡◌, ◌≢◌, ℕ, ◌+◌, ◌-◌, ◌^◌, ◌<◌, Bool, true, false, List, [], ◌∷◌, ◌++◌, Option, None, Some, IfSome, IsSomeAnd, is_some, length, refl, ap, sym, ◌∙◌, subst, append_assoc, nat_lt, nat_le, arith, inl, inr, ◌⊎◌}
+use Rattle.std.proofs.Common.{◌≡◌, ◌≢◌, ℕ, ◌+◌, ◌-◌, ◌^◌, ◌<◌, Bool, true, false, List, [], ◌∷◌, ◌++◌, Option, None, Some, IfSome, IsSomeAnd, is_some, length, refl, ap, sym, ◌∙◌, subst, append_assoc, nat_lt, arith, inl, inr, ◌⊎◌}
 use Rattle.std.proofs.lemmas.Bool.Decides.{nat_tests}
-use Rattle.std.proofs.lemmas.List.{append-nil, length-append}
 use Rattle.std.specs.Io.KnownBytes.{append_known, prepend_known}
-use Rattle.source_block.specs.declared.stop.Stop.{Stop}
-use Rattle.source_block.specs.declared.stop.Stop.TheVariants.{AtEnd, AtBound}
-use Rattle.source_block.specs.Holding.{most_bytes}
-use Rattle.source_block.proofs.TakeLemmas.{prepend_nothing, prepend_twice}
+use Rattle.source_block.specs.declared.stop.Stop.TheVariants.{AtEnd}
+use Rattle.source_block.proofs.TakeLemmas.{prepend_nothing}
 use Rattle.vast_io.specs.Causes.{Rose}
 use Rattle.vast_io.specs.Told.{WritesPart, IsAtEnd}
-use Rattle.vast_io.proofs.Writing.{part_all, part_none, part_behind, part_longer, append_known-append, append_known-nil}
+use Rattle.vast_io.proofs.Writing.{part_none, part_behind, part_longer, append_known-append, append_known-nil}
 use Rattle.vast_value.specs.Headings.{Heading}
-use Rattle.zeek_log.specs.Reader.{State, Reads, Last, Ended as EndedState, StepHas}
+use Rattle.zeek_log.specs.Reader.{StepHas}
 use Rattle.zeek_log.specs.Table.{LogStep, Head, Line}
 use Rattle.importer.specs.declared.ends.How.{How}
 use Rattle.importer.specs.declared.ends.How.TheVariants as how
 use Rattle.importer.specs.declared.ends.ImportEnd.{ImportEnd}
 use Rattle.importer.specs.declared.ends.ImportEnd.TheVariants as end
-use Rattle.importer.specs.Coming.{Standing, Log, Ended, Follow, Anything, Nothing, Lost, MayFollow, HasFaults, IsAfter, IsAfterState, IsKnownBy, IsLost, IsReadFault, StepsOn, fresh, heading_at, steps_to_come}
+use Rattle.importer.specs.Coming.{Standing, Ended, Follow, Nothing, Anything, HasFaults, IsAfter, IsKnownBy, IsLost, IsQuiet, IsReadFault, StepsOn, fresh, steps_to_come}
 use Rattle.importer.specs.Ending.{Answers, ahead, how_ended, only_end}
-use Rattle.importer.specs.Laws.{is_read_fault}
-use Rattle.importer.specs.Steps.{input_steps, input_steps_of_source}
-use Rattle.importer.proofs.GoingLemmas.{goes_stay}
-use Rattle.importer.proofs.LawLemmas.{below_most, bound_is, steps_join, there_is, whole_steps}
+use Rattle.importer.specs.Laws.{is_failed}
+use Rattle.importer.specs.Steps.{input_steps_of_source}
+use Rattle.importer.proofs.GoingLemmas.{faults_join, faults_stay, goes_stay}
+use Rattle.importer.proofs.LawLemmas.{failed_or, first_steps, steps_join, whole_steps}
 use Rattle.input_report.specs.declared.status.Status.{Status}
 use Rattle.input_report.specs.declared.status.Status.TheVariants as status
 use Rattle.input_report.specs.declared.report.WriteEnd.{WriteEnd}
 use Rattle.input_report.specs.declared.report.WriteEnd.TheVariants as write
-use Rattle.input_report.specs.Causes.{GoesBy, GoesOf, GoesWith, IsFault, IsFaulty, LeavesNothing, ReadsWell, SinkStands, Tells, TellsOf, TellsSome, TellsSource, TellsText}
+use Rattle.input_report.specs.Causes.{GoesBy, GoesOf, GoesWith, IsFault, LeavesNothing, ReadsWell, SinkStands, Tells, TellsOf, TellsSome, TellsSource, TellsText}
 use Rattle.input_report.specs.Reports.{Moves, HasCells, heading_after, status_of}
 use Rattle.input_report.specs.Writing.{Sends}
 
@@ -118,62 +115,31 @@ going_left whole behind held at left mid left_now before now so same = subst (λ
 pub part_held : (behind : Text) (held : List ℕ) (before now : Option (List ℕ)) → WritesPart before now held → (rest : Answers LogStep) → WritesPart before now (held ++ behind rest)
 part_held behind held before now part rest = part_longer before now held (behind rest) part
 
--- ---- an input that may go on
+-- ---- how far the source's count of faults is
 
-abbrev is_reading : State → Bool
-is_reading (EndedState e) = false
-is_reading _ = true
+-- nothing was read
+pub never_read : (at : Standing) (f : ℕ) → at ≡ fresh → HasFaults fresh at f f
+never_read at f is = subst (λ (s : Standing). HasFaults fresh s f f) (sym is) (faults_stay fresh fresh f f refl (λ no there. no) (λ no. no))
 
--- no end was met
-abbrev pub is_open : Standing → Bool
-is_open (Log r) = is_reading r.state
-is_open (Ended e) = false
+pub never_lost : (at : Standing) → at ≡ fresh → IsLost at → ⊥
+never_lost at is lost = subst IsLost is lost
 
-false_true : false ≡ true → ⊥
-false_true same = cc
+pub counts_on : (old new : Standing) (f m g : ℕ) → (IsLost old → ⊥) → HasFaults fresh old f m → HasFaults old new m g → HasFaults fresh new f g
+counts_on old new f m g there one two = faults_join fresh old new f m g there one two
 
--- what may follow an input that may go on: anything, or the end of its source
-abbrev IsOpen : Follow → Type 0
-IsOpen Anything = Unit {0}
-IsOpen (Nothing AtEnd) = Unit {0}
-IsOpen _ = ⊥
+not_below : (f g : ℕ) → g ≡ f → nat_lt f g ≡ false
+not_below f g same = grind (arith, nat_tests, same)
 
-reading_follow : (st : State) (follow : Follow) → is_reading st ≡ true → IsAfterState st follow → IsOpen follow
-reading_follow (Reads told n) follow runs after = subst IsOpen (sym after) tt
-reading_follow (Last told) follow runs after = subst IsOpen (sym after) tt
-reading_follow (EndedState e) follow runs after = absurd (false_true runs)
+rose_above : (f g : ℕ) → f < 2 ^ 64 - 1 → Rose f g → nat_lt f g ≡ true
+rose_above f g room rose = grind (arith, nat_tests, room, rose)
 
-open_follow : (at : Standing) (follow : Follow) → is_open at ≡ true → IsAfter at follow → IsOpen follow
-open_follow (Log r) follow runs after = reading_follow r.state follow runs after
-open_follow (Ended e) follow runs after = absurd (false_true runs)
-
-step_reading : (before : Option Heading) (st : State) (told : Option Heading) (x : LogStep) → told ≡ heading_at (Log (record { state = st; held = []; taken = 0; kept = 0 }))
-    → StepHas before told x → is_reading st ≡ true
-step_reading before (Reads h n) told x is has = refl
-step_reading before (Last h) told x is has = refl
-step_reading before (EndedState e) told (Head heading) is has = let no = sym has ∙ is in cc
-step_reading None (EndedState e) told (Line row) is has = absurd has.0
-step_reading (Some h) (EndedState e) told (Line row) is has = let no = sym has.1 ∙ is in cc
-
--- an input that gave a step may go on
-pub open_by : (at : Standing) (before : Option Heading) (x : LogStep) → StepHas before (heading_at at) x → is_open at ≡ true
-open_by (Log r) before x has = step_reading before r.state (heading_at (Log r)) x refl has
-open_by (Ended e) before (Head next) has = cc
-open_by (Ended e) None (Line row) has = absurd has.0
-open_by (Ended e) (Some heading) (Line row) has = let no = has.1 in cc
-
-no_fault_reading : (st : State) → is_reading st ≡ true → IsReadFault (Log (record { state = st; held = []; taken = 0; kept = 0 })) → ⊥
-no_fault_reading (Reads told n) runs fault = fault
-no_fault_reading (Last told) runs fault = fault
-no_fault_reading (EndedState e) runs fault = false_true runs
-
-pub open_no_fault : (at : Standing) → is_open at ≡ true → IsReadFault at → ⊥
-open_no_fault (Log r) runs fault = no_fault_reading r.state runs fault
-open_no_fault (Ended e) runs fault = false_true runs
-
--- no read failed where a step came
-pub step_kept : (old new : Standing) (before : Option Heading) (x : LogStep) (f g : ℕ) → StepHas before (heading_at new) x → HasFaults old new f g → g ≡ f
-step_kept old new before x f g has faults = faults.kept (open_no_fault new (open_by new before x has))
+-- the count rose exactly where a failed read is the end
+fault_test : (at : Standing) (f g : ℕ) → (IsLost at → ⊥) → HasFaults fresh at f g → f < 2 ^ 64 - 1 → nat_lt f g ≡ is_failed at
+fault_test at f g there counts room = by (failed_or at there)
+  where
+    by : (IsReadFault at × (is_failed at ≡ true)) ⊎ ((IsReadFault at → ⊥) × (is_failed at ≡ false)) → nat_lt f g ≡ is_failed at
+    by (inl failed) = rose_above f g room (counts.failed failed.0 (λ no. no)) ∙ sym failed.1
+    by (inr well) = not_below f g (counts.kept well.0 there) ∙ sym well.1
 
 -- ---- a text that was cut off
 
@@ -183,69 +149,30 @@ some_is bytes took rest same = cc
 none_is : (bytes took : List ℕ) → Some bytes ≡ prepend_known took None → ⊥
 none_is bytes took same = cc
 
--- the steps of the source are those that came and some others
-abbrev Comes : List LogStep → List ℕ → List ℕ → Type 0
-Comes given bytes rest = (others : Answers LogStep) × (input_steps_of_source bytes rest false ≡ ahead given others)
-
-module _ (at : Standing) (given : List LogStep) (bytes rest took behind : List ℕ) (follow : Follow)
-    (come : (more : List ℕ) (stop : Stop) → MayFollow follow more stop → input_steps (took ++ more) stop ≡ ahead given (steps_to_come at more stop)) where
-  -- no more is taken
-  come_full : bytes ≡ (took ++ behind) ++ rest → nat_le most_bytes (length (took ++ behind)) ≡ true → MayFollow follow behind AtBound → Comes given bytes rest
-  come_full split full may = (steps_to_come at behind AtBound, bound_is bytes rest (took ++ behind) split full ∙ come behind AtBound may)
-
-  come_there : bytes ≡ (took ++ behind) ++ rest → nat_le most_bytes (length (took ++ behind)) ≡ false → MayFollow follow (behind ++ rest) AtEnd → Comes given bytes rest
-  come_there split few may = (
-    steps_to_come at (behind ++ rest) AtEnd,
-    there_is bytes rest (took ++ behind) split few ∙ ap (λ (t : List ℕ). input_steps t AtEnd) (append_assoc took behind rest) ∙ come (behind ++ rest) AtEnd may,
-  )
-
-  come_any : (b : Bool) → bytes ≡ (took ++ behind) ++ rest → nat_le most_bytes (length (took ++ behind)) ≡ b → MayFollow follow behind AtBound → MayFollow follow (behind ++ rest) AtEnd → Comes given bytes rest
-  come_any true split full one two = come_full split full one
-  come_any false split few one two = come_there split few two
-
-  -- nothing is left of the source
-  come_end : bytes ≡ (took ++ behind) ++ rest → length took < most_bytes → behind ++ rest ≡ [] → MayFollow follow (behind ++ rest) AtEnd → Comes given bytes rest
-  come_end split few none may =
-      come_there split (below_most (length (took ++ behind)) (omega (arith, few, ap length none, length-append took behind, length-append behind rest))) may
-
-come_by : (follow : Follow) (at : Standing) (given : List LogStep) (bytes rest took behind : List ℕ) (mid : Option (List ℕ)) → IsOpen follow
-    → ((more : List ℕ) (stop : Stop) → MayFollow follow more stop → input_steps (took ++ more) stop ≡ ahead given (steps_to_come at more stop))
-    → bytes ≡ (took ++ behind) ++ rest → mid ≡ prepend_known behind (Some rest) → IsKnownBy follow mid (length took) → Comes given bytes rest
-come_by Anything at given bytes rest took behind mid runs come split from known =
-    come_any at given bytes rest took behind Anything come (nat_le most_bytes (length (took ++ behind))) split refl tt tt
-come_by (Nothing AtEnd) at given bytes rest took behind mid runs come split from known =
-    let none : IsAtEnd (Some (behind ++ rest)) = subst IsAtEnd from known.0 in
-    come_end at given bytes rest took behind (Nothing AtEnd) come split known.1 none (none, refl)
-come_by _ at given bytes rest took behind mid runs come split from known = absurd runs
-
--- an input that may go on, of whose source some more was taken
-comes : (at : Standing) (given : List LogStep) (bytes rest behind : List ℕ) (mid : Option (List ℕ)) → is_open at ≡ true
-    → StepsOn fresh at (Some bytes) mid given → mid ≡ prepend_known behind (Some rest) → Comes given bytes rest
-comes at given bytes rest behind mid runs on from =
-    let leads = on Anything 0 (record { after = refl; known = tt; count = refl }) in
-    let known : IsKnownBy leads.follow mid (length leads.took) = subst (λ (n : ℕ). IsKnownBy leads.follow mid n) (omega arith) leads.at.known in
-    let split : bytes ≡ (leads.took ++ behind) ++ rest =
-    some_is bytes (leads.took ++ behind) rest (leads.left ∙ ap (prepend_known leads.took) from ∙ prepend_twice leads.took behind (Some rest)) in
-    come_by leads.follow at given bytes rest leads.took behind mid (open_follow at leads.follow runs leads.at.after) leads.is split from known
-
-abbrev pub Parts : Text → Option (List ℕ) → Option (List ℕ) → Option (List ℕ) → Option (List ℕ) → Type 0
-Parts whole left left_now before now =
-    IfSome left (λ bytes. IsSomeAnd left_now (λ rest. WritesPart before now (whole (input_steps_of_source bytes rest false))))
+abbrev pub Parts : Text → Option (List ℕ) → Option (List ℕ) → ℕ → ℕ → Option (List ℕ) → Option (List ℕ) → Type 0
+Parts whole left left_now f g before now =
+    IfSome left (λ bytes. IsSomeAnd left_now (λ rest. f < 2 ^ 64 - 1 → WritesPart before now (whole (input_steps_of_source bytes rest (nat_lt f g)))))
 
 nothing_known : (bytes behind : List ℕ) (at : Standing) (given : List LogStep) (mid : Option (List ℕ)) → StepsOn fresh at (Some bytes) mid given → mid ≡ prepend_known behind None → ⊥
 nothing_known bytes behind at given mid on from =
     let leads = on Anything 0 (record { after = refl; known = tt; count = refl }) in
     none_is bytes leads.took (leads.left ∙ ap (prepend_known leads.took) from)
 
-pub going_part : (whole behind : Text) (held : List ℕ) (at : Standing) (left mid left_now before written now : Option (List ℕ)) (took : List ℕ)
-    → Going whole behind held at left mid before written → is_open at ≡ true → mid ≡ prepend_known took left_now
-    → ((rest : Answers LogStep) → WritesPart written now (held ++ behind rest)) → Parts whole left left_now before now
-going_part whole behind held at None mid left_now before written now took so runs from part = tt
-going_part whole behind held at (Some bytes) mid None before written now took so runs from part = absurd (nothing_known bytes took at so.given mid so.on from)
-going_part whole behind held at (Some bytes) mid (Some rest) before written now took so runs from part =
-    let come = comes at so.given bytes rest took mid runs so.on from in
+-- What was written is a part of what is told of the source, of which some more may have been taken since.
+pub going_part : (whole behind : Text) (held : List ℕ) (at : Standing) (left mid left_now before written now : Option (List ℕ)) (took : List ℕ) (f m g : ℕ)
+    → Going whole behind held at left mid before written → (IsLost at → ⊥) → mid ≡ prepend_known took left_now → HasFaults fresh at f m → IsQuiet at mid left_now m g
+    → ((rest : Answers LogStep) → WritesPart written now (held ++ behind rest)) → Parts whole left left_now f g before now
+going_part whole behind held at None mid left_now before written now took f m g so there from counts quiet part = tt
+going_part whole behind held at (Some bytes) mid None before written now took f m g so there from counts quiet part = absurd (nothing_known bytes took at so.given mid so.on from)
+going_part whole behind held at (Some bytes) mid (Some rest) before written now took f m g so there from counts quiet part = λ room.
+    let come = first_steps at so.given bytes rest took mid (nat_lt f g) there so.on from
+    (λ still. (sym (quiet still).0, ap (nat_lt f) (quiet still).1 ∙ fault_test at f m there counts room)) in
     let behind_sent : WritesPart before now (so.sent ++ (held ++ behind come.0)) = part_behind before written now so.sent (held ++ behind come.0) so.written (part come.0) in
     subst (λ (t : List ℕ). WritesPart before now t) (sym (ap whole come.1 ∙ so.text come.0)) behind_sent
+
+-- no more was taken
+pub still_quiet : (at : Standing) (left left_now : Option (List ℕ)) (f g : ℕ) → left_now ≡ left → g ≡ f → IsQuiet at left left_now f g
+still_quiet at left left_now f g same count = λ still. (same, count)
 
 -- a status under which a part of a text was written
 abbrev pub IsCut : Status → Type 0
@@ -258,20 +185,13 @@ cut_text status.WriteFault e text before now cut part = part
 cut_text status.Memory e text before now cut part = part
 cut_text _ e text before now cut part = absurd cut
 
-not_below : (f g : ℕ) → g ≡ f → nat_lt f g ≡ false
-not_below f g same = grind (arith, nat_tests, same)
-
-rose_above : (f g : ℕ) → f < 2 ^ 64 - 1 → Rose f g → nat_lt f g ≡ true
-rose_above f g room rose = grind (arith, nat_tests, room, rose)
-
--- what is told where a text was cut off, and no read failed
+-- what is told where a text was cut off
 pub told_cut : (s : Status) (whole : Text) (left left_now : Option (List ℕ)) (f g : ℕ) (before now : Option (List ℕ))
-    → IsCut s → g ≡ f → Parts whole left left_now before now → TellsOf s left left_now f g whole before now
-told_cut s whole None left_now f g before now cut same parts = tt
-told_cut s whole (Some bytes) None f g before now cut same parts = parts
-told_cut s whole (Some bytes) (Some rest) f g before now cut same parts = λ room.
-    subst (λ (b : Bool). Tells s (input_steps_of_source bytes rest b) whole before now) (sym (not_below f g same))
-    (cut_text s (input_steps_of_source bytes rest false).end (whole (input_steps_of_source bytes rest false)) before now cut parts)
+    → IsCut s → Parts whole left left_now f g before now → TellsOf s left left_now f g whole before now
+told_cut s whole None left_now f g before now cut parts = tt
+told_cut s whole (Some bytes) None f g before now cut parts = parts
+told_cut s whole (Some bytes) (Some rest) f g before now cut parts = λ room.
+    cut_text s (input_steps_of_source bytes rest (nat_lt f g)).end (whole (input_steps_of_source bytes rest (nat_lt f g))) before now cut (parts room)
 
 pub cut_status : (w : WriteEnd) → IsCut (status_of w)
 cut_status write.Failed = tt
@@ -310,14 +230,6 @@ finish status.OpenFault e e_now full text sent before mid now split is so tells 
 finish status.Full e e_now full text sent before mid now split is so tells = absurd tells
 finish status.ScriptFault e e_now full text sent before mid now split is so tells = absurd tells
 
--- the count rose exactly where a failed read is the end
-fault_test : (e : Option ImportEnd) (old : Standing) (f g : ℕ) → is_open old ≡ true → HasFaults old (Ended e) f g → f < 2 ^ 64 - 1 → nat_lt f g ≡ is_read_fault e
-fault_test None old f g runs faults room = not_below f g (faults.kept (λ h. h))
-fault_test (Some end.ReadFault) old f g runs faults room = rose_above f g room (faults.failed tt (open_no_fault old runs))
-fault_test (Some end.TooLong) old f g runs faults room = not_below f g (faults.kept (λ h. h))
-fault_test (Some end.Memory) old f g runs faults room = not_below f g (faults.kept (λ h. h))
-fault_test (Some (end.Fault what)) old f g runs faults room = not_below f g (faults.kept (λ h. h))
-
 lost_is : (e : Option ImportEnd) → IsLost (Ended e) → e ≡ Some end.Memory
 lost_is None lost = absurd lost
 lost_is (Some end.Memory) lost = refl
@@ -326,10 +238,10 @@ lost_is (Some end.TooLong) lost = absurd lost
 lost_is (Some (end.Fault what)) lost = absurd lost
 
 all_came : (given : List LogStep) (e : Option ImportEnd) (old : Standing) (bytes rest : List ℕ) (mid : Option (List ℕ)) (f g : ℕ) → StepsOn fresh old (Some bytes) mid given
-    → StepsOn old (Ended e) mid (Some rest) [] → e ≢ Some end.Memory → is_open old ≡ true → HasFaults old (Ended e) f g → f < 2 ^ 64 - 1
+    → StepsOn old (Ended e) mid (Some rest) [] → e ≢ Some end.Memory → HasFaults fresh (Ended e) f g → f < 2 ^ 64 - 1
     → input_steps_of_source bytes rest (nat_lt f g) ≡ ahead given (only_end e)
-all_came given e old bytes rest mid f g on last some runs faults room =
-    ap (input_steps_of_source bytes rest) (fault_test e old f g runs faults room)
+all_came given e old bytes rest mid f g on last some faults room =
+    ap (input_steps_of_source bytes rest) (fault_test (Ended e) f g (λ lost. some (lost_is e lost)) faults room)
     ∙ whole_steps bytes rest e (given ++ []) (steps_join fresh old (Ended e) (Some bytes) mid (Some rest) given [] on last) (λ lost. some (lost_is e lost))
 
 module _ (whole behind : Text) (held : List ℕ) (old : Standing) (left mid left_now before written now : Option (List ℕ)) (e : Option ImportEnd) (s : Status)
@@ -340,28 +252,42 @@ module _ (whole behind : Text) (held : List ℕ) (old : Standing) (left mid left
   pub untold_end : TellsSome s whole before now
   untold_end = (ahead so.given (only_end e), tells_all)
 
-  end_on : (known known_now : Option (List ℕ)) (f g : ℕ) → left ≡ known → left_now ≡ known_now → StepsOn old (Ended e) mid left_now [] → e ≢ Some end.Memory → is_open old ≡ true → HasFaults old (Ended e) f g
+  end_on : (known known_now : Option (List ℕ)) (f g : ℕ) → left ≡ known → left_now ≡ known_now → StepsOn old (Ended e) mid left_now [] → e ≢ Some end.Memory → HasFaults fresh (Ended e) f g
       → TellsOf s known known_now f g whole before now
-  end_on None known_now f g is is_now last some runs faults = tt
-  end_on (Some bytes) None f g is is_now last some runs faults =
+  end_on None known_now f g is is_now last some faults = tt
+  end_on (Some bytes) None f g is is_now last some faults =
       let on : StepsOn fresh old (Some bytes) mid so.given = subst (λ (k : Option (List ℕ)). StepsOn fresh old k mid so.given) is so.on in
       let none : StepsOn old (Ended e) mid None [] = subst (λ (k : Option (List ℕ)). StepsOn old (Ended e) mid k []) is_now last in
       let all = steps_join fresh old (Ended e) (Some bytes) mid None so.given [] on none in
       let leads = all Anything 0 (record { after = refl; known = tt; count = refl }) in
       absurd (none_is bytes leads.took leads.left)
-  end_on (Some bytes) (Some rest) f g is is_now last some runs faults = λ room.
+  end_on (Some bytes) (Some rest) f g is is_now last some faults = λ room.
       let on : StepsOn fresh old (Some bytes) mid so.given = subst (λ (k : Option (List ℕ)). StepsOn fresh old k mid so.given) is so.on in
       let last_on : StepsOn old (Ended e) mid (Some rest) [] = subst (λ (k : Option (List ℕ)). StepsOn old (Ended e) mid k []) is_now last in
-      let all = all_came so.given e old bytes rest mid f g on last_on some runs faults room in
+      let all = all_came so.given e old bytes rest mid f g on last_on some faults room in
       subst (λ (steps : Answers LogStep). Tells s steps whole before now) (sym all) tells_all
 
-  pub told_end : (f g : ℕ) → StepsOn old (Ended e) mid left_now [] → e ≢ Some end.Memory → is_open old ≡ true → HasFaults old (Ended e) f g → TellsOf s left left_now f g whole before now
-  told_end f g last some runs faults = end_on left left_now f g refl refl last some runs faults
+  pub told_end : (f g : ℕ) → StepsOn old (Ended e) mid left_now [] → e ≢ Some end.Memory → HasFaults fresh (Ended e) f g → TellsOf s left left_now f g whole before now
+  told_end f g last some faults = end_on left left_now f g refl refl last some faults
+
+-- the end that an input met, behind what came of it
+pub record EndsSo (old : Standing) (mid left_now : Option (List ℕ)) (e : Option ImportEnd) (f m g : ℕ) : Type 0 where
+  pub last : StepsOn old (Ended e) mid left_now []
+  pub there : IsLost old → ⊥
+  pub counts : HasFaults fresh old f m
+  pub counts_end : HasFaults old (Ended e) m g
+  pub quiet : IsQuiet old mid left_now m g
+
+counts_at : (old : Standing) (mid left_now : Option (List ℕ)) (e : Option ImportEnd) (f m g : ℕ) → EndsSo old mid left_now e f m g → HasFaults fresh (Ended e) f g
+counts_at old mid left_now e f m g ends = counts_on old (Ended e) f m g ends.there ends.counts ends.counts_end
 
 -- an end is want of memory, or another
 abbrev pub is_memory : Option ImportEnd → Bool
 is_memory (Some end.Memory) = true
 is_memory _ = false
+
+false_true : false ≡ true → ⊥
+false_true same = cc
 
 memory_is : (e : Option ImportEnd) → is_memory e ≡ true → e ≡ Some end.Memory
 memory_is (Some end.Memory) at = refl
@@ -378,29 +304,26 @@ took_some at new given left mid left_now on last =
     let more = last leads.follow (0 + length leads.took) leads.at in
     (more.took, more.left)
 
-memory_kept : (e : Option ImportEnd) (old : Standing) (f g : ℕ) → e ≡ Some end.Memory → HasFaults old (Ended e) f g → g ≡ f
-memory_kept e old f g is faults = faults.kept (λ read. subst (λ (x : Option ImportEnd). IsReadFault (Ended x)) is read)
-
-told_by : (b : Bool) (whole behind : Text) (held : List ℕ) (old : Standing) (left mid left_now before written now : Option (List ℕ)) (e : Option ImportEnd) (s : Status) (f g : ℕ)
-    → Going whole behind held old left mid before written → StepsOn old (Ended e) mid left_now [] → is_memory e ≡ b → is_open old ≡ true → HasFaults old (Ended e) f g
+told_by : (b : Bool) (whole behind : Text) (held : List ℕ) (old : Standing) (left mid left_now before written now : Option (List ℕ)) (e : Option ImportEnd) (s : Status) (f m g : ℕ)
+    → Going whole behind held old left mid before written → EndsSo old mid left_now e f m g → is_memory e ≡ b
     → (e ≢ Some end.Memory → TellsText s e (held ++ behind (only_end e)) written now) → (e ≡ Some end.Memory → (s ≡ status.Memory) × (now ≡ written))
     → TellsOf s left left_now f g whole before now
-told_by true whole behind held old left mid left_now before written now e s f g so last at runs faults tells memory =
+told_by true whole behind held old left mid left_now before written now e s f m g so ends at tells memory =
     let is = memory_is e at in
     let stays = memory is in
-    let took = took_some old (Ended e) so.given left mid left_now so.on last in
-    told_cut s whole left left_now f g before now (subst IsCut (sym stays.0) tt) (memory_kept e old f g is faults)
-    (going_part whole behind held old left mid left_now before written now took.0 so runs took.1 (λ rest. part_none written now (held ++ behind rest) stays.1))
-told_by false whole behind held old left mid left_now before written now e s f g so last at runs faults tells memory =
-    told_end whole behind held old left mid left_now before written now e s so (tells (other_is e at)) f g last (other_is e at) runs faults
+    let took = took_some old (Ended e) so.given left mid left_now so.on ends.last in
+    told_cut s whole left left_now f g before now (subst IsCut (sym stays.0) tt)
+    (going_part whole behind held old left mid left_now before written now took.0 f m g so ends.there took.1 ends.counts ends.quiet (λ rest. part_none written now (held ++ behind rest) stays.1))
+told_by false whole behind held old left mid left_now before written now e s f m g so ends at tells memory =
+    told_end whole behind held old left mid left_now before written now e s so (tells (other_is e at)) f g ends.last (other_is e at) (counts_at old mid left_now e f m g ends)
 
 -- the input ended, and the end was told
-pub told_at : (whole behind : Text) (held : List ℕ) (old : Standing) (left mid left_now before written now : Option (List ℕ)) (e : Option ImportEnd) (s : Status) (f g : ℕ)
-    → Going whole behind held old left mid before written → StepsOn old (Ended e) mid left_now [] → is_open old ≡ true → HasFaults old (Ended e) f g
+pub told_at : (whole behind : Text) (held : List ℕ) (old : Standing) (left mid left_now before written now : Option (List ℕ)) (e : Option ImportEnd) (s : Status) (f m g : ℕ)
+    → Going whole behind held old left mid before written → EndsSo old mid left_now e f m g
     → (e ≢ Some end.Memory → TellsText s e (held ++ behind (only_end e)) written now) → (e ≡ Some end.Memory → (s ≡ status.Memory) × (now ≡ written))
     → TellsOf s left left_now f g whole before now
-told_at whole behind held old left mid left_now before written now e s f g so last runs faults tells memory =
-    told_by (is_memory e) whole behind held old left mid left_now before written now e s f g so last refl runs faults tells memory
+told_at whole behind held old left mid left_now before written now e s f m g so ends tells memory =
+    told_by (is_memory e) whole behind held old left mid left_now before written now e s f m g so ends refl tells memory
 
 some_by : (b : Bool) (whole behind : Text) (held : List ℕ) (old : Standing) (left mid before written now : Option (List ℕ)) (e : Option ImportEnd) (s : Status)
     → Going whole behind held old left mid before written → is_memory e ≡ b
@@ -442,23 +365,23 @@ goes_end status.WriteFault e e_now is = inr (ap how_ended (sym is))
 goes_end status.Memory e e_now is = tt
 goes_end _ e e_now is = ap how_ended (sym is)
 
-goes_known : (b : Bool) (whole behind : Text) (held : List ℕ) (old : Standing) (left mid left_now before written now : Option (List ℕ)) (e : Option ImportEnd) (s : Status) (f g : ℕ)
-    → Going whole behind held old left mid before written → StepsOn old (Ended e) mid left_now [] → is_memory e ≡ b → is_open old ≡ true → HasFaults old (Ended e) f g
+goes_known : (b : Bool) (whole behind : Text) (held : List ℕ) (old : Standing) (left mid left_now before written now : Option (List ℕ)) (e : Option ImportEnd) (s : Status) (f m g : ℕ)
+    → Going whole behind held old left mid before written → EndsSo old mid left_now e f m g → is_memory e ≡ b
     → (e ≡ Some end.Memory → (s ≡ status.Memory) × (now ≡ written)) → TellsOf s left left_now f g whole before now → GoesOf s (how_ended e) left left_now f g
-goes_known b whole behind held old None mid left_now before written now e s f g so last at runs faults memory told = tt
-goes_known b whole behind held old (Some bytes) mid None before written now e s f g so last at runs faults memory told = told
-goes_known true whole behind held old (Some bytes) mid (Some rest) before written now e s f g so last at runs faults memory told = λ room.
+goes_known b whole behind held old None mid left_now before written now e s f m g so ends at memory told = tt
+goes_known b whole behind held old (Some bytes) mid None before written now e s f m g so ends at memory told = told
+goes_known true whole behind held old (Some bytes) mid (Some rest) before written now e s f m g so ends at memory told = λ room.
     let stays = memory (memory_is e at) in
     subst (λ (x : Status). GoesBy x (how_ended e) (input_steps_of_source bytes rest (nat_lt f g)).end) (sym stays.0) tt
-goes_known false whole behind held old (Some bytes) mid (Some rest) before written now e s f g so last at runs faults memory told = λ room.
-    let all = all_came so.given e old bytes rest mid f g so.on last (other_is e at) runs faults room in
+goes_known false whole behind held old (Some bytes) mid (Some rest) before written now e s f m g so ends at memory told = λ room.
+    let all = all_came so.given e old bytes rest mid f g so.on ends.last (other_is e at) (counts_at old mid (Some rest) e f m g ends) room in
     goes_end s e (input_steps_of_source bytes rest (nat_lt f g)).end (ap (λ (x : Answers LogStep). x.end) all)
 
-pub goes_at : (whole behind : Text) (held : List ℕ) (old : Standing) (left mid left_now before written now : Option (List ℕ)) (e : Option ImportEnd) (s : Status) (f g : ℕ)
-    → Going whole behind held old left mid before written → StepsOn old (Ended e) mid left_now [] → is_open old ≡ true → HasFaults old (Ended e) f g
+pub goes_at : (whole behind : Text) (held : List ℕ) (old : Standing) (left mid left_now before written now : Option (List ℕ)) (e : Option ImportEnd) (s : Status) (f m g : ℕ)
+    → Going whole behind held old left mid before written → EndsSo old mid left_now e f m g
     → (e ≡ Some end.Memory → (s ≡ status.Memory) × (now ≡ written)) → TellsOf s left left_now f g whole before now → GoesOf s (how_ended e) left left_now f g
-goes_at whole behind held old left mid left_now before written now e s f g so last runs faults memory told =
-    goes_known (is_memory e) whole behind held old left mid left_now before written now e s f g so last refl runs faults memory told
+goes_at whole behind held old left mid left_now before written now e s f m g so ends memory told =
+    goes_known (is_memory e) whole behind held old left mid left_now before written now e s f m g so ends refl memory told
 
 with_end : (s : Status) (e : Option ImportEnd) (text : List ℕ) (written now : Option (List ℕ)) → e ≢ Some end.Memory → TellsText s e text written now → GoesWith s (how_ended e)
 with_end status.Done e text written now some tells = ap how_ended tells.0
@@ -486,10 +409,10 @@ goes_with s e text written now tells memory = with_by (is_memory e) s e text wri
 -- ---- counts at the end
 
 -- no read failed where the input ended by itself
-reads_by : (s : Status) (e : Option ImportEnd) (text : List ℕ) (written now : Option (List ℕ)) (f g : ℕ) → TellsText s e text written now → (e ≢ Some end.ReadFault → g ≡ f) → ReadsWell s f g
-reads_by status.Done e text written now f g tells kept = kept (λ read. let no = sym tells.0 ∙ read in cc)
-reads_by status.TooLong e text written now f g tells kept = kept (λ read. let no = sym tells.0 ∙ read in cc)
-reads_by status.InputFault e text written now f g tells kept = kept (λ read. subst IsFault read tells.0)
+reads_by : (s : Status) (e : Option ImportEnd) (text : List ℕ) (written now : Option (List ℕ)) (f g : ℕ) → TellsText s e text written now → (e ≢ Some end.ReadFault → e ≢ Some end.Memory → g ≡ f) → ReadsWell s f g
+reads_by status.Done e text written now f g tells kept = kept (λ read. let no = sym tells.0 ∙ read in cc) (λ memory. let no = sym tells.0 ∙ memory in cc)
+reads_by status.TooLong e text written now f g tells kept = kept (λ read. let no = sym tells.0 ∙ read in cc) (λ memory. let no = sym tells.0 ∙ memory in cc)
+reads_by status.InputFault e text written now f g tells kept = kept (λ read. subst IsFault read tells.0) (λ memory. subst IsFault memory tells.0)
 reads_by _ e text written now f g tells kept = tt
 
 fault_is : (e : Option ImportEnd) → IsReadFault (Ended e) → e ≡ Some end.ReadFault
@@ -499,19 +422,19 @@ fault_is (Some end.Memory) read = absurd read
 fault_is (Some end.TooLong) read = absurd read
 fault_is (Some (end.Fault what)) read = absurd read
 
-reads_on : (b : Bool) (s : Status) (e : Option ImportEnd) (old : Standing) (text : List ℕ) (written now : Option (List ℕ)) (f g : ℕ) → is_memory e ≡ b → HasFaults old (Ended e) f g
+reads_on : (b : Bool) (s : Status) (e : Option ImportEnd) (text : List ℕ) (written now : Option (List ℕ)) (f g : ℕ) → is_memory e ≡ b → HasFaults fresh (Ended e) f g
     → (e ≢ Some end.Memory → TellsText s e text written now) → (e ≡ Some end.Memory → (s ≡ status.Memory) × (now ≡ written)) → ReadsWell s f g
-reads_on true s e old text written now f g at faults tells memory = subst (λ (x : Status). ReadsWell x f g) (sym (memory (memory_is e at)).0) tt
-reads_on false s e old text written now f g at faults tells memory =
-    reads_by s e text written now f g (tells (other_is e at)) (λ other. faults.kept (λ read. other (fault_is e read)))
+reads_on true s e text written now f g at faults tells memory = subst (λ (x : Status). ReadsWell x f g) (sym (memory (memory_is e at)).0) tt
+reads_on false s e text written now f g at faults tells memory =
+    reads_by s e text written now f g (tells (other_is e at)) (λ other some. faults.kept (λ read. other (fault_is e read)) (λ lost. some (lost_is e lost)))
 
-pub reads_well : (s : Status) (e : Option ImportEnd) (old : Standing) (text : List ℕ) (written now : Option (List ℕ)) (f g : ℕ) → HasFaults old (Ended e) f g
+pub reads_well : (s : Status) (e : Option ImportEnd) (text : List ℕ) (written now : Option (List ℕ)) (f g : ℕ) → HasFaults fresh (Ended e) f g
     → (e ≢ Some end.Memory → TellsText s e text written now) → (e ≡ Some end.Memory → (s ≡ status.Memory) × (now ≡ written)) → ReadsWell s f g
-reads_well s e old text written now f g faults tells memory = reads_on (is_memory e) s e old text written now f g refl faults tells memory
+reads_well s e text written now f g faults tells memory = reads_on (is_memory e) s e text written now f g refl faults tells memory
 
 -- a read failed where that is the end
-pub rose_at : (e : Option ImportEnd) (old : Standing) (f g : ℕ) → is_open old ≡ true → HasFaults old (Ended e) f g → e ≡ Some end.ReadFault → Rose f g
-rose_at e old f g runs faults is = faults.failed (subst (λ (x : Option ImportEnd). IsReadFault (Ended x)) (sym is) tt) (open_no_fault old runs)
+pub rose_at : (e : Option ImportEnd) (f g : ℕ) → HasFaults fresh (Ended e) f g → e ≡ Some end.ReadFault → Rose f g
+rose_at e f g faults is = faults.failed (subst (λ (x : Option ImportEnd). IsReadFault (Ended x)) (sym is) tt) (λ no. no)
 
 -- ---- nothing is left where all went well
 
@@ -583,24 +506,25 @@ nothing_tells s went whole left f before cut is =
     let so = going_start whole [] fresh left before refl refl in
     let none : (rest : Answers LogStep) → WritesPart before before ([] ++ whole rest) = λ rest. part_none before before (whole rest) refl in
     cut_tells s went whole left left f f before before cut is
-    (told_cut s whole left left f f before before cut refl (going_part whole whole [] fresh left left left before before before [] so refl (sym (prepend_nothing left)) none))
+    (told_cut s whole left left f f before before cut
+    (going_part whole whole [] fresh left left left before before before [] f f f so (never_lost fresh refl) (sym (prepend_nothing left)) (never_read fresh f refl) (still_quiet fresh left left f f refl refl) none))
     (some_cut s whole whole [] fresh left left before before before cut so none) refl
 
 -- its end was met
-pub end_tells : (went : How) (whole behind : Text) (held : List ℕ) (old : Standing) (left mid left_now before written now : Option (List ℕ)) (e : Option ImportEnd) (s : Status) (f g : ℕ)
-    → Going whole behind held old left mid before written → StepsOn old (Ended e) mid left_now [] → is_open old ≡ true → HasFaults old (Ended e) f g
+pub end_tells : (went : How) (whole behind : Text) (held : List ℕ) (old : Standing) (left mid left_now before written now : Option (List ℕ)) (e : Option ImportEnd) (s : Status) (f m g : ℕ)
+    → Going whole behind held old left mid before written → EndsSo old mid left_now e f m g
     → (e ≢ Some end.Memory → TellsText s e (held ++ behind (only_end e)) written now) → (e ≡ Some end.Memory → (s ≡ status.Memory) × (now ≡ written))
     → (s ≡ status.ReadFault → e ≡ Some end.ReadFault) → went ≡ how_ended e → is_some left_now ≡ is_some left
     → TellsSource whole (record { left = left; faults = f }) (record { left = left_now; faults = g }) before now s went
-end_tells went whole behind held old left mid left_now before written now e s f g so last runs faults tells memory read is same =
-    let told : TellsOf s left left_now f g whole before now = told_at whole behind held old left mid left_now before written now e s f g so last runs faults tells memory in
+end_tells went whole behind held old left mid left_now before written now e s f m g so ends tells memory read is same =
+    let told : TellsOf s left left_now f g whole before now = told_at whole behind held old left mid left_now before written now e s f m g so ends tells memory in
     record {
       told = told;
       untold = some_at whole behind held old left mid before written now e s so tells memory;
-      goes = subst (λ (h : How). GoesOf s h left left_now f g) (sym is) (goes_at whole behind held old left mid left_now before written now e s f g so last runs faults memory told);
-      reads = reads_well s e old (held ++ behind (only_end e)) written now f g faults tells memory;
-      ends = leaves_nothing old so.given left mid left_now s e (held ++ behind (only_end e)) written now so.on last tells memory;
-      read = λ failed. rose_at e old f g runs faults (read failed);
+      goes = subst (λ (h : How). GoesOf s h left left_now f g) (sym is) (goes_at whole behind held old left mid left_now before written now e s f m g so ends memory told);
+      reads = reads_well s e (held ++ behind (only_end e)) written now f g (counts_at old mid left_now e f m g ends) tells memory;
+      ends = leaves_nothing old so.given left mid left_now s e (held ++ behind (only_end e)) written now so.on ends.last tells memory;
+      read = λ failed. rose_at e f g (counts_at old mid left_now e f m g ends) (read failed);
       tells = same;
     }
 

@@ -1,8 +1,7 @@
 -- How each report goes on by a step.
-use Rattle.std.proofs.Common.{◌≡◌, ℕ, ◌+◌, Bool, true, false, List, [], ◌∷◌, ◌++◌, Option, None, Some, refl, ap, sym, ◌∙◌, append_assoc, cond, length, map, suc, IsTrue, subst, arith}
+use Rattle.std.proofs.Common.{◌≡◌, ℕ, ◌+◌, Bool, true, false, List, [], ◌∷◌, ◌++◌, Option, None, Some, refl, ap, sym, ◌∙◌, append_assoc, cond, arith}
 use Rattle.std.specs.List.{filter, flat_map}
 use Rattle.vast_value.specs.declared.cell.Cell.{Cell}
-use Rattle.vast_value.specs.declared.column.Column.{Column}
 use Rattle.vast_value.specs.Headings.{Heading}
 use Rattle.query_meaning.specs.declared.expr.Expr.{Expr}
 use Rattle.query_meaning.specs.declared.resolved.Resolved.{Resolved}
@@ -92,3 +91,9 @@ pub check_ends : (heading : Option Heading) (rows : ℕ) (e : Option ImportEnd) 
 check_ends heading rows e out mid now front behind =
     behind ∙ ap (λ (t : List ℕ). t ++ check_end e) front ∙ append_assoc out (counted_text heading rows) (check_end e)
     ∙ ap (λ (t : List ℕ). out ++ t) (sym (check_last heading rows e))
+
+-- ---- texts one behind the other
+
+pub offset_joined : (out head digits name : List ℕ) → (((out ++ head) ++ digits) ++ 32 ∷ []) ++ name ≡ out ++ (head ++ (digits ++ 32 ∷ name))
+offset_joined out head digits name =
+    append_assoc ((out ++ head) ++ digits) (32 ∷ []) name ∙ append_assoc (out ++ head) digits (32 ∷ name) ∙ append_assoc out head (digits ++ 32 ∷ name)

@@ -17,6 +17,8 @@ use Rattle.zeek_log.specs.declared.fault.ZeekFault.TheVariants as fault
 use Rattle.zeek_log.specs.Reader.{heading_or_none}
 use Rattle.zeek_log.specs.Table.{LogStep, Head, Line}
 use Rattle.importer.specs.declared.ends.How.TheVariants as how
+use Rattle.pcap_file.specs.declared.end.CaptureFault.TheVariants as capture
+use Rattle.importer.specs.declared.ends.FormFault.TheVariants.{Compressed, Pcapng}
 use Rattle.importer.specs.declared.ends.ImportEnd.{ImportEnd}
 use Rattle.importer.specs.declared.ends.ImportEnd.TheVariants.{Fault, ReadFault, TooLong}
 use Rattle.importer.specs.declared.ends.InputFault.{InputFault}
@@ -26,7 +28,7 @@ use Rattle.input_report.specs.declared.status.Status.{Status}
 use Rattle.input_report.specs.declared.status.Status.TheVariants as status
 use Rattle.input_report.specs.Causes.{GoesBy, GoesWith, IsFault, LeavesNothing, ReadsWell, TellsSome, TellsText, rest_of}
 use Rattle.input_report.specs.Numbers.{number_of}
-use Rattle.input_report.specs.Texts.{line, fault_name, fault_text, end_text, Event, events_behind, events_of, row_text, matches_text, scan_end, scan_text, Part, rows_first, parts_of, part_text, check_end, check_text}
+use Rattle.input_report.specs.Texts.{line, capture_fault_name, fault_name, fault_text, form_name, offset_text, end_text, Event, events_behind, events_of, row_text, matches_text, scan_end, scan_text, Part, rows_first, parts_of, part_text, check_end, check_text}
 
 abbrev heading : Heading
 heading = record { path = codes "d"; fields = record { name = codes "n"; kind = One elem.Count } ∷ [] }
@@ -40,6 +42,12 @@ numbers = refl
 
 fault_names : map fault_name (fault.NoHead ∷ fault.BadSeparator ∷ fault.FieldsTypes ∷ fault.TooManyColumns ∷ fault.EmptyName ∷ fault.SameName ∷ fault.UnknownKind ∷ fault.Floating ∷ fault.CellCount ∷ fault.BadCell ∷ fault.LineTooLong ∷ []) ≡ (codes "NoHead" ∷ codes "BadSeparator" ∷ codes "FieldsTypes" ∷ codes "TooManyColumns" ∷ codes "EmptyName" ∷ codes "SameName" ∷ codes "UnknownKind" ∷ codes "Floating" ∷ codes "CellCount" ∷ codes "BadCell" ∷ codes "LineTooLong" ∷ [])
 fault_names = refl
+
+capture_fault_names : map capture_fault_name (capture.BadMagic ∷ capture.VersionUnknown ∷ capture.LinkUnknown ∷ capture.RecordTooLong ∷ capture.ShortHead ∷ capture.ShortRecord ∷ []) ≡ (codes "BadMagic" ∷ codes "VersionUnknown" ∷ codes "LinkUnknown" ∷ codes "RecordTooLong" ∷ codes "ShortHead" ∷ codes "ShortRecord" ∷ [])
+capture_fault_names = refl
+
+form_names : map form_name (Compressed ∷ Pcapng ∷ []) ≡ (codes "Compressed" ∷ codes "Pcapng" ∷ [])
+form_names = refl
 
 -- Lines
 
@@ -56,6 +64,10 @@ ends_of_scans = refl
 faults_have_line_and_column : (fault_text (input.Line 12 0 fault.NoHead) ∷ fault_text (input.Line 3 4 fault.BadCell) ∷ []) ≡ (codes "fault line 12 column 0 NoHead" ∷ codes "fault line 3 column 4 BadCell" ∷ [])
 unfolding digits
 faults_have_line_and_column = refl
+
+faults_of_captures_have_an_offset : (fault_text (input.Place 184 capture.ShortRecord) ∷ fault_text (input.Form Compressed) ∷ offset_text 12 (codes "x") ∷ []) ≡ (codes "fault offset 184 ShortRecord" ∷ codes "fault offset 0 Compressed" ∷ codes "fault offset 12 x" ∷ [])
+unfolding digits
+faults_of_captures_have_an_offset = refl
 
 -- Steps
 
@@ -124,7 +136,7 @@ scan_of_no_match cells expr h = rw h refl
 -- the status that an end of a log gives
 abbrev status_of_end : Option ImportEnd → Status
 status_of_end None = status.Done
-status_of_end (Some (Fault (input.Line l c what))) = status.InputFault
+status_of_end (Some (Fault what)) = status.InputFault
 status_of_end (Some ReadFault) = status.ReadFault
 status_of_end (Some TooLong) = status.TooLong
 status_of_end _ = status.Memory
@@ -144,7 +156,7 @@ a_status_tells_its_end : (s : Status) (end : Option ImportEnd) (text : List ℕ)
 a_status_tells_its_end status.Done end text before now told write memory = (ap status_of_end told.0, told.1)
 a_status_tells_its_end status.ReadFault end text before now told write memory = (ap status_of_end told.0, told.1)
 a_status_tells_its_end status.TooLong end text before now told write memory = (ap status_of_end told.0, told.1)
-a_status_tells_its_end status.InputFault (Some (Fault (input.Line l c what))) text before now told write memory = (refl, told.1)
+a_status_tells_its_end status.InputFault (Some (Fault what)) text before now told write memory = (refl, told.1)
 a_status_tells_its_end status.InputFault _ text before now told write memory = absurd told.0
 a_status_tells_its_end status.WriteFault end text before now told write memory = absurd (write refl)
 a_status_tells_its_end status.Memory end text before now told write memory = absurd (memory refl)

@@ -6,7 +6,7 @@ use Rattle.vast_value.specs.declared.cell.Cell.{Cell}
 use Rattle.zeek_log.specs.Reader.{StepHas}
 use Rattle.zeek_log.specs.Table.{LogStep}
 use Rattle.importer.specs.declared.ends.ImportEnd.{ImportEnd}
-use Rattle.importer.specs.Coming.{HasFaults, Standing, StepsOn, heading_at, step_at, steps_left}
+use Rattle.importer.specs.Coming.{HasFaults, IsLost, IsQuiet, Standing, StepsOn, heading_at, step_at, steps_left}
 use Rattle.importer.specs.Coming as coming
 use Rattle.input_report.specs.declared.report.Next.{Next}
 use Rattle.input_report.specs.declared.report.Next.TheVariants.{Step, Ended, Refused}
@@ -15,14 +15,16 @@ use Rattle.input_report.specs.Writing.{Sends}
 -- the step is the first of what was still to come, and the input stands behind it
 pub record StepsTo (old new : Standing) (before now : Option (List ℕ)) (faults faults_now : ℕ) (step : LogStep) : Type 0 where
   pub next : StepsOn old new before now (step ∷ [])
-  pub count : faults_now ≡ faults
+  pub counts : HasFaults old new faults faults_now
   pub has : StepHas (heading_at old) (heading_at new) step
+  pub there : ¬ IsLost new
   pub less : steps_left new < steps_left old
 
 -- nothing but this end was still to come
 pub record EndsTo (old : Standing) (before now : Option (List ℕ)) (faults faults_now : ℕ) (end : Option ImportEnd) : Type 0 where
   pub next : StepsOn old (coming.Ended end) before now []
   pub counts : HasFaults old (coming.Ended end) faults faults_now
+  pub quiet : IsQuiet old before now faults faults_now
 
 -- the source is as it was
 pub record StaysAt (before now : Option (List ℕ)) (faults faults_now : ℕ) : Type 0 where

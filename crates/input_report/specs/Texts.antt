@@ -10,7 +10,11 @@ use Rattle.query_meaning.specs.Meaning.{holds}
 use Rattle.zeek_log.specs.declared.fault.ZeekFault.{ZeekFault}
 use Rattle.zeek_log.specs.declared.fault.ZeekFault.TheVariants as fault
 use Rattle.zeek_log.specs.Reader.{heading_or_none}
+use Rattle.pcap_file.specs.declared.end.CaptureFault.{CaptureFault}
+use Rattle.pcap_file.specs.declared.end.CaptureFault.TheVariants as capture
 use Rattle.zeek_log.specs.Table.{LogStep, Head, Line}
+use Rattle.importer.specs.declared.ends.FormFault.{FormFault}
+use Rattle.importer.specs.declared.ends.FormFault.TheVariants.{Compressed, Pcapng}
 use Rattle.importer.specs.declared.ends.ImportEnd.{ImportEnd}
 use Rattle.importer.specs.declared.ends.ImportEnd.TheVariants.{Fault, ReadFault, TooLong, Memory}
 use Rattle.importer.specs.declared.ends.InputFault.{InputFault}
@@ -35,9 +39,26 @@ fault_name fault.CellCount = codes "CellCount"
 fault_name fault.BadCell = codes "BadCell"
 fault_name fault.LineTooLong = codes "LineTooLong"
 
--- what is wrong with an input, and where
+abbrev pub capture_fault_name : CaptureFault → List ℕ
+capture_fault_name capture.BadMagic = codes "BadMagic"
+capture_fault_name capture.VersionUnknown = codes "VersionUnknown"
+capture_fault_name capture.LinkUnknown = codes "LinkUnknown"
+capture_fault_name capture.RecordTooLong = codes "RecordTooLong"
+capture_fault_name capture.ShortHead = codes "ShortHead"
+capture_fault_name capture.ShortRecord = codes "ShortRecord"
+
+abbrev pub form_name : FormFault → List ℕ
+form_name Compressed = codes "Compressed"
+form_name Pcapng = codes "Pcapng"
+
+abbrev pub offset_text : ℕ → List ℕ → List ℕ
+offset_text offset name = codes "fault offset " ++ (decimal offset ++ 32 ∷ name)
+
+-- what is wrong with an input, and where; an unread form is wrong at its first byte
 abbrev pub fault_text : InputFault → List ℕ
 fault_text (input.Line l c what) = codes "fault line " ++ (decimal l ++ (codes " column " ++ (decimal c ++ 32 ∷ fault_name what)))
+fault_text (input.Place offset what) = offset_text offset (capture_fault_name what)
+fault_text (input.Form what) = offset_text 0 (form_name what)
 
 -- how an input ended
 abbrev pub end_text : Option ImportEnd → List ℕ

@@ -4,10 +4,11 @@ ghost use Rattle.std.specs.Fmt.{decimal};
 ghost use Rattle.std.specs.List.{flat_map};
 ghost use Rattle.value_text.specs.Writing.{cell_text};
 ghost use Rattle.vast_value.specs.Headings.{heading_of};
-ghost use Rattle.input_report.specs.Texts.{row_text, line, fault_name, fault_text, end_text, part_text};
+ghost use Rattle.input_report.specs.Texts.{capture_fault_name, end_text, fault_name, fault_text, form_name, line, offset_text, part_text, row_text};
 
-use importer::{ImportEnd, InputFault, Place};
+use importer::{FormFault, ImportEnd, InputFault, Place};
 use itoa::Buffer as Digits;
+use pcap_file::CaptureFault;
 use std::alloc::AllocError;
 use value_text::write_escaped;
 use vast_value::{Bytes, Layout};
@@ -67,7 +68,18 @@ fn push_fault(fault: InputFault, out: &mut Bytes) -> Result<(), AllocError>
             out.push(b' ')?;
             out.append(fault_name(what))
         }
+        InputFault::Place { offset, what } => push_offset(offset, capture_fault_name(what), out),
+        InputFault::Form(what) => push_offset(0, form_name(what), out),
     }
+}
+
+fn push_offset(offset: u64, name: &[u8], out: &mut Bytes) -> Result<(), AllocError>
+    ensures { OnOk result (out.new ≡ out.old ++ offset_text offset name.now) }
+{
+    out.append(b"fault offset ")?;
+    push_number(offset, out)?;
+    out.push(b' ')?;
+    out.append(name)
 }
 
 fn fault_name(what: ZeekFault) -> &'static [u8]
@@ -85,5 +97,27 @@ fn fault_name(what: ZeekFault) -> &'static [u8]
         ZeekFault::CellCount => b"CellCount",
         ZeekFault::BadCell => b"BadCell",
         ZeekFault::LineTooLong => b"LineTooLong",
+    }
+}
+
+fn capture_fault_name(what: CaptureFault) -> &'static [u8]
+    ensures { result.now ≡ capture_fault_name what }
+{
+    match what {
+        CaptureFault::BadMagic => b"BadMagic",
+        CaptureFault::VersionUnknown => b"VersionUnknown",
+        CaptureFault::LinkUnknown => b"LinkUnknown",
+        CaptureFault::RecordTooLong => b"RecordTooLong",
+        CaptureFault::ShortHead => b"ShortHead",
+        CaptureFault::ShortRecord => b"ShortRecord",
+    }
+}
+
+fn form_name(what: FormFault) -> &'static [u8]
+    ensures { result.now ≡ form_name what }
+{
+    match what {
+        FormFault::Compressed => b"Compressed",
+        FormFault::Pcapng => b"Pcapng",
     }
 }

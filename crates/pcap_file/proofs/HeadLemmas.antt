@@ -1,5 +1,6 @@
 -- The file head, and what stands behind it.
 use Rattle.std.proofs.Common.{◌≡◌, ℕ, ◌+◌, ◌<◌, ◌≤◌, ◌==◌, ◌&&◌, Bool, true, false, nat_le, is_ok, List, [], ◌++◌, length, drop, Option, Some, None, Result, Ok, Err, IfErr, refl, sym, ap, subst, ◌∙◌, arith, length-append, append_assoc}
+use Rattle.std.proofs.lemmas.Bool.Decides.{nat_tests}
 use Rattle.std.proofs.lemmas.Bool.{lt-ltb, le-ltb, lt-leb, le-leb}
 use Rattle.std.proofs.lemmas.List.{append-nil, drop-append-le}
 use Rattle.std.specs.Io.KnownBytes.{prepend_known}
@@ -36,7 +37,7 @@ version_append m new more le =
     let link = number_append m.endian 4 20 new more (omega arith) in
     rw (version, link) refl
 
-head_append : (new more : List ℕ) → 24 ≤ length new → head_of (new ++ more) ≡ head_of new
+pub head_append : (new more : List ℕ) → 24 ≤ length new → head_of (new ++ more) ≡ head_of new
 unfolding head_of
 head_append new more le = ap (λ (m : Option Magic). magic_end m (new ++ more)) (magic_append new more le) ∙ by (magic_of new)
   where
@@ -117,6 +118,34 @@ few_is : (new : List ℕ) (stop : Stop) → length new < 24 → records new stop
 unfolding records
 few_is new stop few = let e = lt-ltb (length new) 24 few in rw e refl
 
+-- a file head that is there, or that has a fault, stays so whatever bytes follow
+headed_more : (new more : List ℕ) → 24 ≤ length new → has_head (new ++ more) ≡ has_head new
+headed_more new more le =
+    let len = length-append new more in
+    let now : nat_le 24 (length new) ≡ true = le-leb 24 (length new) le in
+    let all : nat_le 24 (length (new ++ more)) ≡ true = le-leb 24 (length (new ++ more)) (omega arith) in
+    rw (all, now) (ap is_ok (head_append new more le))
+
+pub head_stays : (new more : List ℕ) → has_head new ≡ true → has_head (new ++ more) ≡ true
+head_stays new more head = by (nat_le 24 (length new)) refl
+  where
+    by : (b : Bool) → nat_le 24 (length new) ≡ b → has_head (new ++ more) ≡ true
+    by true le = headed_more new more (grind (arith, nat_tests, le)) ∙ head
+    by false few = let none = few_none new (grind (arith, nat_tests, few)) in cc
+
+-- where an end stands whatever bytes follow, so does what it says of the file head
+pub headed_anyway : (new more : List ℕ) (e : PcapEnd) → ((more : List ℕ) (stop : Stop) → records (new ++ more) stop ≡ ended e) → (e ≡ Fault (length new) ShortHead → ⊥)
+    → has_head (new ++ more) ≡ has_head new
+headed_anyway new more e same other = by (nat_le 24 (length new)) refl
+  where
+    short : length new < 24 → e ≡ Fault (length new) ShortHead
+    short few =
+        ap (λ (a : Answers). a.last) (sym (same [] AtEnd) ∙ ap (λ (xs : List ℕ). records xs AtEnd) (append-nil new) ∙ few_is new AtEnd few)
+
+    by : (b : Bool) → nat_le 24 (length new) ≡ b → has_head (new ++ more) ≡ has_head new
+    by true le = headed_more new more (grind (arith, nat_tests, le))
+    by false few = absurd (other (short (grind (arith, nat_tests, few))))
+
 pub head_ends : (new seen : List ℕ) (now : Option (List ℕ)) (taken : ℕ) (stop : Stop) (e : PcapEnd) → length new < 24 → Stops stop now taken → seen ≡ new → e ≡ cut_off stop (length seen) ShortHead → Ends records new now taken e
 head_ends new seen now taken stop e few why same is =
     subst (Ends records new now taken) (sym (is ∙ ap (λ (xs : List ℕ). cut_off stop (length xs) ShortHead) same)) (by stop why)
@@ -140,9 +169,9 @@ regroup old took w more h = sym (append_assoc old took more) ∙ ap (λ (xs : Li
 
 -- a whole record is given
 pub steps_next : (head : FileHead) (offset size : ℕ) (old w new : Hold) (seen : List ℕ) (x y : Option (List ℕ)) (r : Captured)
-    → Takes old w x y → IsWhole head size w.bytes → r ≡ record_of head seen → seen ≡ w.bytes → new.bytes ≡ drop size w.bytes
-    → StepsTo (records_from head offset) (records_from head (offset + (16 + r.captured))) old.bytes new.bytes x y r
-steps_next head offset size old w new seen x y r t whole made same rest =
+    → Takes old w x y → IsWhole head size w.bytes → r ≡ record_of head seen → seen ≡ w.bytes → new.bytes ≡ drop size w.bytes → new.taken ≡ w.taken
+    → StepsTo (records_from head offset) (records_from head (offset + (16 + r.captured))) old new x y r
+steps_next head offset size old w new seen x y r t whole made same rest total =
     let is : r ≡ record_of head w.bytes = made ∙ ap (record_of head) same in
     let captured : r.captured ≡ captured_of head w.bytes = ap (λ (c : Captured). c.captured) is in
     let size_is = whole.size_is in
@@ -150,6 +179,7 @@ steps_next head offset size old w new seen x y r t whole made same rest =
     record {
       took = t.took;
       left = t.left;
+      count = total ∙ t.count;
       is = λ more stop. ap (λ (xs : List ℕ). records_from head offset xs stop) (regroup old.bytes t.took w.bytes more t.held)
           ∙ first_record head offset size w.bytes whole more stop
           ∙ ap (λ (c : Captured). first c (records_from head (offset + size) (drop size w.bytes ++ more) stop)) (sym is)
@@ -179,9 +209,9 @@ ends_same come come' new new' now taken e same ends = by e ends
 
 -- once the file head is there, what comes behind it is what is still to come
 pub begins : (head : FileHead) (old mid new : Reading) (w : List ℕ) (took : List ℕ) (x m y : Option (List ℕ)) (r : Result Captured PcapEnd)
-    → old.phase ≡ Start → mid.phase ≡ Records head 24 → mid.held ≡ drop 24 w → mid.given ≡ old.given
+    → old.phase ≡ Start → mid.phase ≡ Records head 24 → mid.held ≡ drop 24 w → mid.given ≡ old.given → mid.taken ≡ old.taken + length took
     → w ≡ old.held ++ took → x ≡ prepend_known took m → 24 ≤ length w → head_of w ≡ Ok head → Answer mid new m y r → Answer old new x y r
-begins head old mid new w took x m y r start records_is rest given held left le h answer = by r answer
+begins head old mid new w took x m y r start records_is rest given total held left le h answer = by r answer
   where
     come : (two more : List ℕ) (stop : Stop) → to_come old ((took ++ two) ++ more) stop ≡ to_come mid (two ++ more) stop
     come two more stop =
@@ -204,14 +234,17 @@ begins head old mid new w took x m y r start records_is rest given held left le 
     by (Ok r) answer = record {
       took = took ++ answer.took;
       left = left ∙ ap (prepend_known took) answer.left ∙ prepend_twice took answer.took y;
+      total = omega (arith, total, answer.total, length-append took answer.took);
       is = λ more stop. come answer.took more stop ∙ answer.is more stop;
       count = omega (arith, answer.count);
       head = there answer.took;
       headed = answer.headed;
+      opens = answer.opens;
     }
     by (Err e) answer = record {
       took = took ++ answer.took;
       left = left ∙ ap (prepend_known took) answer.left ∙ prepend_twice took answer.took y;
+      total = omega (arith, total, answer.total, length-append took answer.took);
       is = ends_same (come_from old.phase) (come_from mid.phase) (old.held ++ (took ++ answer.took)) (mid.held ++ answer.took) y new.taken e (λ more stop.
           ap (λ (xs : List ℕ). come_from old.phase xs stop) (append_assoc old.held (took ++ answer.took) more)
           ∙ come answer.took more stop

@@ -1,9 +1,9 @@
 -- What contracts see of a reader, and what is still to come from it.
-use Rattle.std.specs.Prelude.{◌≡◌, ℕ, ◌+◌, ◌*◌, ◌≤◌, Bool, true, false, List, ◌++◌, Option, Result, Ok, Err}
+use Rattle.std.specs.Prelude.{◌≡◌, ℕ, ◌+◌, ◌*◌, ◌≤◌, Bool, true, false, List, ◌++◌, Option, Result, Ok, Err, length}
 use Rattle.std.specs.Io.KnownBytes.{prepend_known}
 use Rattle.source_block.specs.declared.stop.Stop.{Stop}
 use Rattle.pcap_file.specs.Heads.{has_head}
-use Rattle.pcap_file.specs.Records.{Answers, ended, first, records, records_from, Ends, CountsBy}
+use Rattle.pcap_file.specs.Records.{Answers, ended, first, records, records_from, size_of_record, Ends, IsWhole, CountsBy}
 use Rattle.pcap_file.specs.declared.reader.Phase.{Phase}
 use Rattle.pcap_file.specs.declared.reader.Phase.TheVariants.{Start, Records, Ended}
 use Rattle.pcap_file.specs.declared.record.Captured.{Captured}
@@ -24,6 +24,14 @@ come_from Start bytes stop = records bytes stop
 come_from (Records head offset) bytes stop = records_from head offset bytes stop
 come_from (Ended e headed) bytes stop = ended e
 
+-- a whole record is among the bytes held
+abbrev pub HoldsWhole : Phase → List ℕ → Type 0
+HoldsWhole (Records head offset) held = IsWhole head (size_of_record head held) held
+HoldsWhole _ held = ⊥
+
+abbrev pub HoldsRecord : Reading → Type 0
+HoldsRecord r = HoldsWhole r.phase r.held
+
 -- what is still to come of a reader by the bytes that its source still gives, after which no more come for the reason
 abbrev pub to_come : Reading → List ℕ → Stop → Answers
 to_come r bytes stop = come_from r.phase (r.held ++ bytes) stop
@@ -33,6 +41,11 @@ abbrev pub is_headed : Phase → Bool
 is_headed Start = false
 is_headed (Records head offset) = true
 is_headed (Ended e headed) = headed
+
+-- records may come
+abbrev pub is_open : Phase → Bool
+is_open (Ended e headed) = false
+is_open _ = true
 
 -- and so it is once these bytes are there: at the start they have to begin with such a head
 abbrev pub headed_by : Phase → List ℕ → Bool
@@ -44,15 +57,18 @@ headed_by (Ended e headed) bytes = headed
 pub record Gives (old new : Reading) (before now : Option (List ℕ)) (r : Captured) : Type 0 where
   pub took : List ℕ
   pub left : before ≡ prepend_known took now
+  pub total : new.taken ≡ old.taken + length took
   pub is : (more : List ℕ) (stop : Stop) → to_come old (took ++ more) stop ≡ first r (to_come new more stop)
   pub count : new.given ≡ old.given + 1
   pub head : headed_by old.phase (old.held ++ took) ≡ true
   pub headed : is_headed new.phase ≡ true
+  pub opens : is_open new.phase ≡ true
 
 -- all that is still to come is this end, which stays; the file head was read exactly where the bytes begin with one
 pub record Closes (old new : Reading) (before now : Option (List ℕ)) (e : PcapEnd) : Type 0 where
   pub took : List ℕ
   pub left : before ≡ prepend_known took now
+  pub total : new.taken ≡ old.taken + length took
   pub is : Ends (come_from old.phase) (old.held ++ took) now new.taken e
   pub stays : new.phase ≡ Ended e (headed_by old.phase (old.held ++ took))
 

@@ -2,6 +2,7 @@
 use Rattle.std.specs.Prelude.{◌≡◌, ◌≤◌, ◌++◌, Bool, true, false, Option, ℕ, zero, suc, ℤ, pos, ◌+◌, ◌*◌, nat_lt, if◌then◌else◌, List, [], ◌∷◌, length, take, drop, Result, Ok, Err}
 use Rattle.std.specs.Io.KnownBytes.{prepend_known}
 use Rattle.vast_io.specs.Causes.{Rose}
+use Rattle.source_block.specs.Holding.{Hold}
 use Rattle.source_block.specs.Taking.{Stops}
 use Rattle.source_block.specs.declared.stop.Stop.{Stop}
 use Rattle.source_block.specs.declared.stop.Stop.TheVariants.{AtEnd, Failed, AtBound}
@@ -117,13 +118,15 @@ end_after stop true offset = end_of stop
 end_after stop false offset = cut_off stop offset ShortRecord
 
 -- by the bytes held and those to come, a record is the first of what is still to come, and leaves the rest
-pub record StepsTo (come rest : List ℕ → Stop → Answers) (old new : List ℕ) (before now : Option (List ℕ)) (r : Captured) : Type 0 where
+pub record StepsTo (come rest : List ℕ → Stop → Answers) (old new : Hold) (before now : Option (List ℕ)) (r : Captured) : Type 0 where
   pub took : List ℕ
   pub left : before ≡ prepend_known took now
-  pub is : (more : List ℕ) (stop : Stop) → come (old ++ (took ++ more)) stop ≡ first r (rest (new ++ more) stop)
+  pub count : new.taken ≡ old.taken + length took
+  pub is : (more : List ℕ) (stop : Stop) → come (old.bytes ++ (took ++ more)) stop ≡ first r (rest (new.bytes ++ more) stop)
 
 -- and so is an end
-pub record ClosesAs (come : List ℕ → Stop → Answers) (old : List ℕ) (before now : Option (List ℕ)) (taken : ℕ) (e : PcapEnd) : Type 0 where
+pub record ClosesAs (come : List ℕ → Stop → Answers) (old new : Hold) (before now : Option (List ℕ)) (e : PcapEnd) : Type 0 where
   pub took : List ℕ
   pub left : before ≡ prepend_known took now
-  pub is : Ends come (old ++ took) now taken e
+  pub count : new.taken ≡ old.taken + length took
+  pub is : Ends come (old.bytes ++ took) now new.taken e

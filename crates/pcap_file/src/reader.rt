@@ -1,12 +1,13 @@
 //! The reader of a capture file.
-ghost use Rattle.std.specs.Prelude.{◌≡◌, ◌≤◌, ◌+◌, [], pos, ◌≤ℤ◌, length, drop, IfOk};
+ghost use Rattle.std.specs.Prelude.{◌≡◌, ◌≤◌, ◌+◌, [], pos, ◌≤ℤ◌, length, drop, IfOk, IsTrue};
+ghost use Rattle.source_block.specs.Holding.{most_bytes};
 ghost use Rattle.pcap_file.specs.Records.{CountsBy};
-ghost use Rattle.pcap_file.specs.Reading.{Answer, Follows, CountsOf, is_headed, most_kept};
+ghost use Rattle.pcap_file.specs.Reading.{Answer, Follows, CountsOf, HoldsRecord, is_headed, most_kept};
 
 use crate::end::PcapEnd;
 use crate::head::FileHead;
 use crate::opening::whole_head;
-use crate::record::{Captured, next_record};
+use crate::record::{Captured, begins_with_record, next_record};
 use source_block::Block;
 use std::alloc::{AllocError, Global};
 use std::marker::Model;
@@ -52,13 +53,23 @@ impl PcapReader {
     pub fn new(alloc: Global) -> Result<Self, AllocError>
         ensures { IfOk result (λ reader. reader ≡ record { phase = Phase.Start; held = []; taken = 0; kept = 65536; given = 0 }) }
     {
-        let block = Block::new(alloc)?;
-        Ok(PcapReader {
+        Ok(PcapReader::with_block(alloc, Block::new(alloc)?))
+    }
+
+    /// A reader that has read nothing of a capture whose first bytes were taken already: the block holds all of them. It
+    /// takes no memory.
+    pub fn with_block(alloc: Global, block: Block) -> Self
+        requires all { block.taken ≡ length block.bytes }
+        requires bound { block.taken ≤ most_bytes }
+        requires kept { block.kept ≤ most_kept }
+        ensures { result ≡ record { phase = Phase.Start; held = block.bytes; taken = block.taken; kept = block.kept; given = 0 } }
+    {
+        PcapReader {
             phase: Phase::Start,
             block,
             given: 0,
             alloc,
-        })
+        }
     }
 
     /// Whether the file head was read, and has no fault.
@@ -69,6 +80,16 @@ impl PcapReader {
             Phase::Start => false,
             Phase::Records { .. } => true,
             Phase::Ended { has_head, .. } => has_head,
+        }
+    }
+
+    /// Whether a whole record is among the bytes held. The next one is then given without reading more of the source.
+    pub fn holds_record(&self) -> bool
+        ensures { IsTrue result → HoldsRecord self.now }
+    {
+        match self.phase {
+            Phase::Records { head, .. } => begins_with_record(head, self.block.as_slice()),
+            _ => false,
         }
     }
 

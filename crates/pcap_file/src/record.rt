@@ -1,5 +1,5 @@
 //! The records of a capture.
-ghost use Rattle.std.specs.Prelude.{◌≡◌, ◌≤◌, ◌+◌, pos, ◌≤ℤ◌, length, max, IfOk, IfErr};
+ghost use Rattle.std.specs.Prelude.{◌≡◌, ◌≤◌, ◌+◌, pos, ◌≤ℤ◌, length, max, IfOk, IfErr, IsTrue};
 ghost use Rattle.source_block.specs.Holding.{most_bytes};
 ghost use Rattle.source_block.specs.Taking.{Takes};
 ghost use Rattle.pcap_file.specs.Reading.{most_kept};
@@ -36,6 +36,17 @@ pub fn captured_of(head: FileHead, bytes: &[u8]) -> u32
     ensures { result ≡ captured_of head bytes.now }
 {
     u32_at(head.magic.endian, bytes, 8)
+}
+
+/// Whether the bytes begin with a whole record.
+pub fn begins_with_record(head: FileHead, bytes: &[u8]) -> bool
+    ensures { IsTrue result → IsWhole head (size_of_record head bytes.now) bytes.now }
+{
+    if bytes.len() < 16 {
+        return false;
+    }
+    let captured = captured_of(head, bytes);
+    captured <= MOST_CAPTURED && 16 + captured as usize <= bytes.len()
 }
 
 /// The record that the bytes begin with.
@@ -134,10 +145,10 @@ pub fn next_record<S: Source>(
     offset: u64,
 ) -> Result<Captured, PcapEnd>
     requires room { offset + length block.old.bytes ≡ block.old.taken }
-    ensures next { IfOk result (λ captured. StepsTo (records_from head offset) (records_from head (offset + (16 + captured.captured))) block.old.bytes block.new.bytes (S.left source.old) (S.left source.new) captured) }
+    ensures next { IfOk result (λ captured. StepsTo (records_from head offset) (records_from head (offset + (16 + captured.captured))) block.old block.new (S.left source.old) (S.left source.new) captured) }
     ensures room { IfOk result (λ captured. offset + (16 + captured.captured) + length block.new.bytes ≡ block.new.taken) }
     ensures time { IfOk result (λ captured. pos 0 ≤ℤ captured.time) }
-    ensures ends { IfErr result (λ e. ClosesAs (records_from head offset) block.old.bytes (S.left source.old) (S.left source.new) block.new.taken e) }
+    ensures ends { IfErr result (λ e. ClosesAs (records_from head offset) block.old block.new (S.left source.old) (S.left source.new) e) }
     ensures counts { CountsBy result (S.faults source.old) (S.faults source.new) }
     ensures bound { block.new.taken ≤ most_bytes }
     ensures kept { block.new.kept ≤ max block.old.kept most_kept }

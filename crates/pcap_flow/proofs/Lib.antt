@@ -4,3 +4,4 @@ mod KeyLemmas
 mod GroupLemmas
 mod LayoutLemmas
 pub mod RowLemmas
+mod Vectors

@@ -11,7 +11,7 @@ use Rattle.importer.specs.declared.ends.How.TheVariants as how
 use Rattle.importer.specs.declared.ends.ImportEnd.{ImportEnd}
 use Rattle.importer.specs.Ending.{Answers, how_ended}
 use Rattle.importer.specs.Steps.{input_steps_of_source}
-use Rattle.importer.proofs.LawLemmas.{below_bound, below_most, carries}
+use Rattle.importer.proofs.LawLemmas.{below_bound, below_most}
 use Rattle.input_report.specs.Causes.{Rest}
 use Rattle.input_report.specs.declared.status.Status.{Status}
 use Rattle.input_report.specs.declared.status.Status.TheVariants as status
@@ -29,7 +29,7 @@ whole_ends bytes rest n whole calm =
     let few : nat_le most_bytes (length (take (length bytes - length rest) bytes)) ≡ false =
     below_most (length (take (length bytes - length rest) bytes)) (omega (arith, whole.0, length-take (length bytes - length rest) bytes)) in
     ap (λ (b : Bool). (input_steps_of_source bytes rest b).end) (none_lt n calm)
-    ∙ ap (λ (s : Answers LogStep). s.end) (ap carries (below_bound bytes (take (length bytes - length rest) bytes) false few refl)) ∙ whole.1
+    ∙ ap (λ (s : Answers LogStep). s.end) (below_bound bytes (take (length bytes - length rest) bytes) false few refl) ∙ whole.1
 
 -- the source went well
 abbrev IsWell : How → Type 0

@@ -1,5 +1,5 @@
 -- Sources that end.
-use Rattle.std.proofs.Common.{◌≡◌, ℕ, ◌≤◌, Bool, true, false, ◌||◌, List, [], ◌∷◌, ◌++◌, Option, None, Some, IfSome, IsSomeAnd, is_some, length, map, nat_lt, refl, ap, sym, ◌∙◌, subst, arith}
+use Rattle.std.proofs.Common.{◌≡◌, ℕ, ◌≤◌, Bool, true, false, ◌||◌, List, [], ◌∷◌, ◌++◌, Option, None, Some, IfSome, IsSomeAnd, is_some, length, map, nat_lt, refl, ap, sym, ◌∙◌, subst, arith, inl, inr, ◌⊎◌}
 use Rattle.std.proofs.lemmas.Bool.Decides.{nat_tests}
 use Rattle.std.proofs.lemmas.List.{append-nil}
 use Rattle.event_batch.specs.Contents.{Content}
@@ -7,16 +7,15 @@ use Rattle.importer.specs.declared.ends.How.{How}
 use Rattle.importer.specs.declared.ends.ImportEnd.{ImportEnd}
 use Rattle.importer.specs.declared.ends.ImportEnd.TheVariants.{Fault, ReadFault, TooLong, Memory}
 use Rattle.importer.specs.declared.ends.SourceEnd.{SourceEnd}
-use Rattle.importer.specs.Coming.{BatchesOn, Ended, Importing, IsLost, IsReadFault, Log, Standing}
+use Rattle.importer.specs.Coming.{BatchesOn, Ended, Importing, IsLost, IsReadFault, Standing}
 use Rattle.importer.specs.Cutting.{cut_answers}
 use Rattle.importer.specs.Laws.{is_failed, is_read_fault, starting}
 use Rattle.importer.specs.Steps.{input_steps_of_source}
-use Rattle.importer.proofs.LawLemmas.{first_batches, whole_batches}
+use Rattle.importer.proofs.LawLemmas.{failed_or, first_batches, whole_batches}
 use Rattle.step_script.specs.Feeds.{AreFed, Fed, IsFed, Outward}
 use Rattle.step_script.specs.Playing.{Source}
 use Rattle.step_script.specs.Told.{AreEnds, Fails, GaveOf, IsEnd, SeenEnd, batches_of, end_of, is_fault, is_full, is_read_fault as is_read_failure, is_too_long, status_at, went}
 use Rattle.step_script.specs.Finishing.{some_ended, status_of_ways}
-use Rattle.step_script.proofs.FeedLemmas.{log_clean}
 
 -- ---- whether a read failed
 
@@ -37,8 +36,11 @@ end_failed (Some TooLong) faults knows = stood faults (knows.1 (λ no. no))
 end_failed (Some Memory) faults knows = stood faults (knows.1 (λ no. no))
 
 standing_failed : (at : Standing) (faults : ℕ) → (IsLost at → ⊥) → Knows at faults → is_failed at ≡ nat_lt 0 faults
-standing_failed (Log r) faults there knows = stood faults (knows.1 (log_clean r there))
-standing_failed (Ended end) faults there knows = end_failed end faults knows
+standing_failed at faults there knows = by (failed_or at there)
+  where
+    by : (IsReadFault at × (is_failed at ≡ true)) ⊎ ((IsReadFault at → ⊥) × (is_failed at ≡ false)) → is_failed at ≡ nat_lt 0 faults
+    by (inl failed) = failed.1 ∙ rose faults (knows.0 failed.0)
+    by (inr well) = well.1 ∙ stood faults (knows.1 well.0)
 
 -- ---- what a source gave
 

@@ -1,62 +1,46 @@
 -- A source that is being read goes on.
-use Rattle.std.proofs.Common.{OnOk, ◌≡◌, ℕ, zero, suc, ◌<◌, ◌≤◌, List, [], ◌∷◌, ◌++◌, Option, None, Some, Result, Ok, Err, IfSome, length, is_some, slice_get, slice_index_or, slice_set, refl, ap, sym, ◌∙◌, subst, arith}
+use Rattle.std.proofs.Common.{OnOk, ◌≡◌, ℕ, zero, suc, ◌<◌, ◌≤◌, List, [], ◌∷◌, ◌++◌, Option, None, Some, Result, Ok, Err, IfSome, length, is_some, slice_get, slice_index_or, slice_set, refl, ap, sym, ◌∙◌, subst, arith, inl, inr, ◌⊎◌}
 use Rattle.std.proofs.lemmas.List.{append-nil}
 use Rattle.event_batch.specs.Contents.{Content, Spelled, content_of}
 use Rattle.event_batch.specs.declared.batch.Batch.{Batch}
 use Rattle.event_history.specs.Steps as s
 use Rattle.importer.specs.declared.ends.ImportEnd.{ImportEnd}
 use Rattle.importer.specs.declared.ends.ImportEnd.TheVariants.{Fault, ReadFault, TooLong, Memory}
-use Rattle.zeek_log.specs.Reader.{Reading, State}
-use Rattle.zeek_log.specs.Reader.{Reads as StateReads, Last as StateLast, Ended as StateEnded}
-use Rattle.importer.specs.Coming.{IsLostState, IsReadFaultState, BatchesOn, Ended, EndsAt, Sourced, Stays, batches_given, end_answer, batches_to_come, fresh, HasFaults, Importing, IsLost, IsReadFault, Log, Standing}
+use Rattle.importer.specs.Coming.{BatchesOn, Ended, EndsAt, Sourced, Stays, batches_given, end_answer, batches_to_come, fresh, HasFaults, Importing, IsLost, IsReadFault, Standing}
 use Rattle.importer.specs.Laws.{starting}
-use Rattle.importer.proofs.GoingLemmas.{goes_stay}
+use Rattle.importer.proofs.GoingLemmas.{goes_stay, read_fault_or}
 use Rattle.importer.proofs.LawLemmas.{batches_join}
 use Rattle.script_desk.specs.Desks.{Desk, Plays, play_accept, step_at}
 use Rattle.step_script.specs.Feeds.{Accepts, AreFed, Fed, IsFed, IsHeard, Outward, fed_tally}
 use Rattle.step_script.specs.Playing.{Answer, Gave, IsAnswerOf, IsNext, IsOpen, Source, Tally, WayIs, after_offer, end_reply, ended_tally, how_offered, offer_by, offered, opened, packed_of, untouched, with_end, with_given, with_tally}
 use Rattle.step_script.specs.Playing.{Ended as Met}
 
--- an import stays at its end
-abbrev pub StaysAt : Standing → Standing → ℕ → ℕ → Type 0
-StaysAt old new m n = (end : Option ImportEnd) → old ≡ Ended end → (new ≡ old) × (n ≡ m)
-
 -- the count of faults is known as before
 pub record KnowsFaults (at : Standing) (faults : ℕ) : Type 0 where
   pub failed : IsReadFault at → 1 ≤ faults
   pub sound : ¬ IsReadFault at → faults ≡ 0
 
-clean_state : (state : State) → (IsLostState state → ⊥) → IsReadFaultState state → ⊥
-clean_state (StateReads told n) there failed = failed
-clean_state (StateLast told) there failed = failed
-clean_state (StateEnded end) there failed = there tt
-
-pub log_clean : (r : Reading) → (IsLost (Log r) → ⊥) → IsReadFault (Log r) → ⊥
-log_clean r there failed = clean_state r.state there failed
-
-faults_on_by : (old new at : Standing) (m n : ℕ) → at ≡ old → (IsLost at → ⊥) → HasFaults old new m n → KnowsFaults old m → StaysAt old new m n → KnowsFaults new n
-faults_on_by old new (Ended end) m n is there has knows stays =
-    let same = stays end (sym is) in
-    subst (λ (s : Standing). KnowsFaults s n) (sym same.0) (subst (λ (k : ℕ). KnowsFaults old k) (sym same.1) knows)
-faults_on_by old new (Log r) m n is there has knows stays =
-    let clean : IsReadFault old → ⊥ = subst (λ (s : Standing). IsReadFault s → ⊥) is (log_clean r there) in
-    let none : m ≡ 0 = knows.sound clean in
-    record {
-      failed = λ rf. omega (arith, none, has.failed rf clean);
-      sound = λ no. has.kept no ∙ none;
+pub faults_on : (old new : Standing) (m n : ℕ) → (IsLost new → ⊥) → HasFaults old new m n → KnowsFaults old m → KnowsFaults new n
+faults_on old new m n there has knows = by (read_fault_or old)
+  where
+    by : IsReadFault old ⊎ (IsReadFault old → ⊥) → KnowsFaults new n
+    by (inl was) = record {
+      failed = λ rf. omega (arith, has.again was, knows.failed was);
+      sound = λ no. absurd (no (has.lasts was there));
     }
-
-pub faults_on : (old new : Standing) (m n : ℕ) → (IsLost old → ⊥) → HasFaults old new m n → KnowsFaults old m → StaysAt old new m n → KnowsFaults new n
-faults_on old new m n there has knows stays = faults_on_by old new old m n refl there has knows stays
+    by (inr well) = record {
+      failed = λ rf. omega (arith, has.failed rf well);
+      sound = λ no. has.kept no there ∙ knows.sound well;
+    }
 
 -- An import gave a batch.
 pub heard_gave : {S : Type 0} (out : Outward S) (bytes : Option (List ℕ)) (batch : ℕ) (x : Source) (at now : Importing) (source source_now : S) (content : Content)
     → IsHeard out bytes batch x at source → x.end ≡ None → BatchesOn at now (out.left source) (out.left source_now) (content ∷ []) → (IsLost now.standing → ⊥)
     → (now.number ≡ at.number) × (now.rows ≡ at.rows) → HasFaults at.standing now.standing (out.faults source) (out.faults source_now)
-    → StaysAt at.standing now.standing (out.faults source) (out.faults source_now) → is_some (out.left source_now) ≡ is_some (out.left source)
+    → is_some (out.left source_now) ≡ is_some (out.left source)
     → IsHeard out bytes batch (with_given content x) now source_now
-heard_gave out bytes batch x at now source source_now content heard open_ on there same has stays tells =
-    let knows = faults_on at.standing now.standing (out.faults source) (out.faults source_now) heard.there has (record { failed = heard.failed; sound = heard.sound }) stays in
+heard_gave out bytes batch x at now source source_now content heard open_ on there same has tells =
+    let knows = faults_on at.standing now.standing (out.faults source) (out.faults source_now) there has (record { failed = heard.failed; sound = heard.sound }) in
     record {
       number = same.0 ∙ heard.number;
       rows = same.1 ∙ heard.rows;
@@ -72,16 +56,17 @@ heard_gave out bytes batch x at now source source_now content heard open_ on the
 pub heard_end : {S : Type 0} (out : Outward S) (bytes : Option (List ℕ)) (batch : ℕ) (x : Source) (at now : Importing) (source source_now : S) (end : Option ImportEnd)
     → IsHeard out bytes batch x at source → BatchesOn at now (out.left source) (out.left source_now) [] → now.standing ≡ Ended end → (IsLost (Ended end) → ⊥)
     → (now.number ≡ at.number) × (now.rows ≡ at.rows) → HasFaults at.standing now.standing (out.faults source) (out.faults source_now)
-    → StaysAt at.standing now.standing (out.faults source) (out.faults source_now) → is_some (out.left source_now) ≡ is_some (out.left source)
+    → is_some (out.left source_now) ≡ is_some (out.left source)
     → IsHeard out bytes batch (with_end end x) now source_now
-heard_end out bytes batch x at now source source_now end heard on ended there same has stays tells =
-    let knows = faults_on at.standing now.standing (out.faults source) (out.faults source_now) heard.there has (record { failed = heard.failed; sound = heard.sound }) stays in
+heard_end out bytes batch x at now source source_now end heard on ended there same has tells =
+    let here : IsLost now.standing → ⊥ = subst (λ (s : Standing). IsLost s → ⊥) (sym ended) there in
+    let knows = faults_on at.standing now.standing (out.faults source) (out.faults source_now) here has (record { failed = heard.failed; sound = heard.sound }) in
     record {
       number = same.0 ∙ heard.number;
       rows = same.1 ∙ heard.rows;
       gave = subst (λ (g : List Content). BatchesOn (starting x.number batch) now bytes (out.left source_now) g) (append-nil x.given)
           (batches_join (starting x.number batch) at now bytes (out.left source) (out.left source_now) x.given [] heard.gave on);
-      there = subst (λ (s : Standing). IsLost s → ⊥) (sym ended) there;
+      there = here;
       ended = ended;
       failed = knows.failed;
       sound = knows.sound;
@@ -178,12 +163,6 @@ fed_at_import f import = record { number = f.number; name = f.name; tally = f.ta
 abbrev pub import_of : {S : Type 0} → Fed S → Sourced Importing S
 import_of f = record { at = f.at; source = f.source }
 
-stays_at : {S : Type 0} (out : Outward S) (old now : Sourced Importing S) (result : Result (Option Batch) ImportEnd) → Asks out old now result
-    → StaysAt old.at.standing now.at.standing (out.faults old.source) (out.faults now.source)
-stays_at {S} out old now result asks end is =
-    let same = (asks.stays end is).1 in
-    (ap (λ (s : Sourced Importing S). s.at.standing) same, ap (λ (s : Sourced Importing S). out.faults s.source) same)
-
 no_batch : (end : Option ImportEnd) (b : Batch) (result : Result (Option Batch) ImportEnd) → result ≡ Ok (Some b) → result ≡ end_answer end → ⊥
 no_batch None b result is end_is = absurd cc
 no_batch (Some end) b result is end_is = absurd cc
@@ -264,7 +243,7 @@ fed_gave out told batch x f now b result fed asks is none = record {
   heard = heard_gave out (told x.name) batch x f.at now.at f.source now.source (content_of b) fed.heard none
       (subst (λ (r : Result (Option Batch) ImportEnd). BatchesOn f.at now.at (out.left f.source) (out.left now.source) (batches_given r)) is asks.next)
       (subst (λ (r : Result (Option Batch) ImportEnd). EndsAt r now.at.standing) is asks.ends)
-      asks.same asks.faults (stays_at out (import_of f) now result asks) asks.tells;
+      asks.same asks.faults asks.tells;
 }
 
 gave_done : {S : Type 0} (out : Outward S) (told : List ℕ → Option (List ℕ)) (batch : ℕ) (x : Source) (mid new : Fed S) (content : Content) (packed : Spelled) (desk now : Desk) (text text_now : List ℕ)
@@ -310,7 +289,7 @@ fed_ended out told batch x f now end result fed refused asks is there = record {
   heard = heard_end out (told x.name) batch x f.at now.at f.source now.source end fed.heard
       (subst (λ (given : List Content). BatchesOn f.at now.at (out.left f.source) (out.left now.source) given) (ap batches_given is ∙ none_given end) asks.next)
       (ended_at end now.at.standing (subst (λ (r : Result (Option Batch) ImportEnd). EndsAt r now.at.standing) is asks.ends))
-      there asks.same asks.faults (stays_at out (import_of f) now result asks) asks.tells;
+      there asks.same asks.faults asks.tells;
 }
 
 end_by : {S U E : Type 0} (r : Result U E) (out : Outward S) (told : List ℕ → Option (List ℕ)) (batch : ℕ) (x : Source) (mid new : Fed S) (number : ℕ) (end : Option ImportEnd) (desk : Desk) (text text_now : List ℕ)

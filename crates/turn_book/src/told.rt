@@ -20,8 +20,9 @@ pub trait History: Drop {
         ensures { result ≡ length (history self.now) };
 }
 
-/// A state that may go from thread to thread, so that threads can share a book of it. An `impl` is empty, and proves
-/// that the state can be sent. No call of a book asks for it.
+/// A state that may go from thread to thread, so that threads can share a book of it. An `impl` is empty: the compiler
+/// sees at it, by the types, that the state can be sent. That it can is proved where threads are started. No call of a book
+/// asks for it.
 pub trait Told: History + Send {}
 
 /// What one turn does to the state. It waits for nobody, and has want of memory in its own answer.

@@ -1,3 +1,4 @@
 pub mod IndexLemmas
+pub mod PageLemmas
 pub mod SealLemmas
 pub mod WentLemmas

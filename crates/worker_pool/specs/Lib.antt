@@ -1,3 +1,4 @@
 pub mod Deeds
 pub mod Indexing
+pub mod Paging
 pub mod Sealing

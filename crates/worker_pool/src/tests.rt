@@ -1,10 +1,12 @@
-//! A worker's share of indexing and merging.
+//! A worker's share of indexing, merging and paging.
 ghost use Rattle.std.specs.Prelude.{◌≡◌, ◌<◌};
 ghost use Rattle.turn_book.specs.Seats.{book_id, pass_book};
 
 use super::*;
+use archive_cache::Cache;
 use event_batch::{Packed, Steps};
-use history_core::{Limits, Store};
+use history_core::{Limits, Mode, Store};
+use query_meaning::{Expr, Literal, Pick, Rel, Test};
 use shared_store::{Pass, Vast};
 use std::alloc::Global;
 use std::marker::Brand;
@@ -12,7 +14,7 @@ use std::sync::Wait;
 use std::sync::ledger::{Blank, Ledger};
 use std::test::Fail;
 use vast_io::OpenGate;
-use vast_value::Bytes;
+use vast_value::{Bytes, Elem, Transport, Value};
 
 // A batch of one event.
 const ONE_EVENT: [u8; 26] = [
@@ -76,5 +78,70 @@ fn each_batch_is_indexed_once_and_a_full_group_merged_once(rt: HostRuntime) -> R
     assert!(rt; !index_next(&rt, alloc, &vast, &mut pass)?);
     assert!(rt; seal_one(&rt, alloc, &vast, &mut pass, &OpenGate, 0, 0)?);
     assert!(rt; !seal_one(&rt, alloc, &vast, &mut pass, &OpenGate, 0, 0)?);
+    Ok(())
+}
+
+// The events with port 53.
+fn port_53() -> Expr {
+    Expr::Test(Test {
+        pick: Pick::OfKind(Elem::Port),
+        rel: Rel::Eq,
+        literal: Literal::Of(Value::Port {
+            number: 53,
+            over: Transport::Unknown,
+        }),
+    })
+}
+
+// How many events the next two pages tell together, the first one all of them, and where the past part is told to.
+fn two_pages<L: Ledger, R: Wait>(
+    rt: &R,
+    alloc: Global,
+    vast: &Vast,
+    pass: &mut Pass,
+    blank: Blank,
+) -> Result<(usize, u64, Option<u64>), Fail>
+    requires name { blank.name ≡ L.name }
+    requires parts { blank.parts ≡ L.parts }
+    requires some { 0 < L.parts }
+    requires book { pass_book pass.old ≡ book_id vast.now.book }
+    ensures { pass_book pass.new ≡ book_id vast.now.book }
+{
+    let Ok(session) = vast.register(rt, pass, Mode::Both, port_53()) else {
+        return Err("not registered".into());
+    };
+    let mut query = QueryEnd {
+        label: Bytes::new(alloc),
+        session: Some(session),
+        taken: None,
+        too_many: None,
+        pages: Vec::new(alloc),
+    };
+    let mut cache = Cache::new(alloc, 1)?;
+    let mut steps = Steps::<L>::new(blank);
+    page_one(
+        rt, alloc, vast, pass, &OpenGate, 0, 0, &mut cache, &mut steps, &mut query,
+    )?;
+    page_one(
+        rt, alloc, vast, pass, &OpenGate, 0, 1, &mut cache, &mut steps, &mut query,
+    )?;
+    match query.pages.as_slice() {
+        [first, second] if second.found.as_slice().is_empty() => {
+            Ok((first.found.as_slice().len(), first.past_to, first.again))
+        }
+        _ => Err("other pages".into()),
+    }
+}
+
+#[test]
+fn a_query_is_told_the_indexed_past_once(rt: HostRuntime) -> Result<(), Fail> {
+    let alloc = rt.alloc();
+    let (vast, mut root) = Vast::new(alloc, Store::new(alloc, LIMITS))?;
+    let mut pass = vast.split(&mut root)?;
+    accept_one(&rt, alloc, &vast, &mut pass)?;
+    accept_one(&rt, alloc, &vast, &mut pass)?;
+    assert!(rt; index_next(&rt, alloc, &vast, &mut pass)?);
+    let told = two_pages::<Brand, _>(&rt, alloc, &vast, &mut pass, Blank::new(1))?;
+    assert_eq!(rt; told, (1, 1, Some(1)));
     Ok(())
 }

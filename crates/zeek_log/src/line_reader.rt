@@ -7,6 +7,7 @@ ghost use Rattle.zeek_log.specs.Standing.{IsPlainAt, behind_line, line_cells, ne
 ghost use Rattle.vast_value.specs.Headings.{heading_of};
 ghost use Rattle.vast_value.specs.Views.{number_cell};
 ghost use Rattle.memchr.specs.Find.{IsFirstByte, is_byte};
+ghost use Rattle.source_block.specs.Holding.{most_bytes};
 ghost use Rattle.source_block.specs.Taking.{Stops, Counts};
 ghost use Rattle.zeek_log.specs.Finding.{HoldsRow, most_kept};
 ghost use Rattle.zeek_log.specs.Going.{LineAnswer, LineCounts, answer_of, is_reading, lines_left};
@@ -67,12 +68,14 @@ impl Model for LineReader {
 }
 
 impl LineReader {
-    /// A reader that has read nothing.
-    pub fn new(alloc: Global) -> Result<Self, AllocError>
-        ensures { IfOk result (λ reader. reader ≡ record { state = Reads opening 1; held = []; taken = 0; kept = 65536 }) }
+    /// A reader that has read no line. The block holds all bytes that were taken of its source so far.
+    pub fn with_block(alloc: Global, block: Block) -> Result<Self, AllocError>
+        requires all { block.taken ≡ length block.bytes }
+        requires bound { block.taken ≤ most_bytes }
+        requires kept { block.kept ≤ most_kept }
+        ensures { IfOk result (λ reader. reader ≡ record { state = Reads opening 1; held = block.bytes; taken = block.taken; kept = block.kept }) }
     {
         let known = opened(alloc, b'\t')?;
-        let block = Block::new(alloc)?;
         Ok(LineReader {
             phase: Phase::Reads,
             known,

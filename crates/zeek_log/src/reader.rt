@@ -1,6 +1,7 @@
 //! A reader that stands at a line.
 ghost use Rattle.std.specs.Prelude.{◌≡◌, ℕ, ◌<◌, ◌≤◌, ◌++◌, ◌∷◌, List, [], Option, None, Some, Ok, false, length, is_some, slice_get, IfOk, IfSome, OnOk, IsTrue, MatchOption};
 ghost use Rattle.std.specs.List.{between, flat_map};
+ghost use Rattle.source_block.specs.Holding.{most_bytes};
 ghost use Rattle.value_text.specs.Writing.{cell_text};
 ghost use Rattle.vast_value.specs.Headings.{heading_of};
 ghost use Rattle.vast_value.specs.Views.{number_cell};
@@ -15,6 +16,7 @@ ghost use Rattle.zeek_log.specs.Steps.{step_of};
 use crate::line_reader::LineReader;
 use crate::plain_row::write_behind_tab;
 use crate::step::{Moved, Step, ZeekEnd};
+use source_block::Block;
 use std::alloc::{AllocError, Global};
 use std::marker::Model;
 use vast_io::Source;
@@ -65,7 +67,17 @@ impl ZeekReader {
     pub fn new(alloc: Global) -> Result<Self, AllocError>
         ensures { IfOk result (λ reader. reader ≡ record { at = record { state = Reads opening 1; held = []; taken = 0; kept = 65536 }; row = [] }) }
     {
-        let lines = LineReader::new(alloc)?;
+        ZeekReader::with_block(alloc, Block::new(alloc)?)
+    }
+
+    /// A reader that has read no line, where the first bytes of its source were taken already: the block holds all of them.
+    pub fn with_block(alloc: Global, block: Block) -> Result<Self, AllocError>
+        requires all { block.taken ≡ length block.bytes }
+        requires bound { block.taken ≤ most_bytes }
+        requires kept { block.kept ≤ most_kept }
+        ensures { IfOk result (λ reader. reader ≡ record { at = record { state = Reads opening 1; held = block.bytes; taken = block.taken; kept = block.kept }; row = [] }) }
+    {
+        let lines = LineReader::with_block(alloc, block)?;
         Ok(ZeekReader {
             lines,
             current: Current::Nowhere,

@@ -1,13 +1,12 @@
-use Rattle.std.proofs.Common.{ℕ, ◌++◌, ◌∷◌, [], refl, Option, subst, sym, ap, ◌∙◌, arith}
+use Rattle.std.proofs.Common.{◌++◌, ◌∷◌, [], refl, Option, subst, sym, ap, ◌∙◌, arith}
 use Rattle.vast_value.specs.Headings.{Heading}
 use Rattle.source_block.proofs.TakeLemmas.{prepend_nothing}
 use Rattle.importer.specs.declared.ends.How.{How}
-use Rattle.importer.specs.Coming.{Ended, HasFaults, heading_at, step_at, steps_left}
+use Rattle.importer.specs.Coming.{heading_at, step_at, steps_left}
 use Rattle.importer.specs.Ending.{ahead, only_end}
-use Rattle.input_report.specs.declared.status.Status.TheVariants.{WriteFault}
 use Rattle.input_report.specs.Causes.{GoesWith}
 use Rattle.input_report.specs.Reports.{heading_after}
-use Rattle.input_report.proofs.GoingLemmas.{IsCut, Parts, cut_status, cut_tells, end_tells, goes_with, going_left, going_moves, going_next, going_part, going_sends, going_start, heading_goes, is_open, nothing_tells, open_by, part_held, sink_on, some_cut, told_cut, unread_with}
+use Rattle.input_report.proofs.GoingLemmas.{EndsSo, IsCut, Parts, counts_on, cut_status, cut_tells, end_tells, goes_with, going_left, going_moves, going_next, going_part, going_sends, going_start, heading_goes, never_lost, never_read, nothing_tells, part_held, sink_on, some_cut, still_quiet, told_cut}
 use Rattle.input_report.proofs.report.write_report.Goals as goal
 
 pub returns-in_default-clause-source : goal.returns-in_default-clause-source
@@ -31,13 +30,17 @@ returns-in-Err-clause-source g c =
     let sent = going_sends whole behind c.loop-moved.buffer.text held c.loop-moved.input.at left (g.S.Source.left c.loop-moved.input.source) before
     (g.K.Sink.written c.loop-moved.sink) mid c.loop-moved.invariant.going c.in-Step.ensures.sends in
     let so = going_next whole behind held c.loop-moved.input.at new left (g.S.Source.left c.loop-moved.input.source) left_now before mid step sent c.in-Step.ensures.goes.next in
-    let parts : Parts whole left left_now before now =
-    going_part whole (λ rest. behind (ahead (step ∷ []) rest)) held new left left_now left_now before mid now [] so
-    (open_by new (heading_at c.loop-moved.input.at) step c.in-Step.ensures.goes.has) (sym (prepend_nothing left_now)) c.in-Err.ensures.part in
+    let f = g.S.Source.faults c.args.input.now.source in
+    let g_now = g.S.Source.faults c.go_on.new.input.source in
+    let parts : Parts whole left left_now f g_now before now =
+    going_part whole (λ rest. behind (ahead (step ∷ []) rest)) held new left left_now left_now before mid now [] f g_now g_now so
+    c.in-Step.ensures.goes.there (sym (prepend_nothing left_now))
+    (counts_on c.loop-moved.input.at new f (g.S.Source.faults c.loop-moved.input.source) g_now c.loop-moved.invariant.there c.loop-moved.invariant.source_faults c.in-Step.ensures.goes.counts)
+    (still_quiet new left_now left_now g_now g_now refl refl) c.in-Err.ensures.part in
     cut_tells c.cut_off-in-Err.result.status c.cut_off-in-Err.result.how whole left left_now (g.S.Source.faults c.args.input.now.source) (g.S.Source.faults c.go_on.new.input.source) before now
     cut c.cut_off-in-Err.ensures.how
     (told_cut c.cut_off-in-Err.result.status whole left left_now (g.S.Source.faults c.args.input.now.source) (g.S.Source.faults c.go_on.new.input.source) before now
-    cut (c.in-Step.ensures.goes.count ∙ c.loop-moved.invariant.source_kept) parts)
+    cut parts)
     (some_cut c.cut_off-in-Err.result.status whole (λ rest. behind (ahead (step ∷ []) rest)) held new left left_now before mid now cut so c.in-Err.ensures.part)
     (c.go_on.ensures.tells ∙ c.loop-moved.invariant.tells)
 
@@ -59,8 +62,10 @@ returns-in-Refused-clause-source g c =
     cut_tells c.cut_off-in-Refused.result.status c.cut_off-in-Refused.result.how whole left left_now (g.S.Source.faults c.args.input.now.source) (g.S.Source.faults c.go_on.new.input.source) before now
     cut c.cut_off-in-Refused.ensures.how
     (told_cut c.cut_off-in-Refused.result.status whole left left_now (g.S.Source.faults c.args.input.now.source) (g.S.Source.faults c.go_on.new.input.source) before now
-    cut (c.in-Refused.ensures.goes.count ∙ c.loop-moved.invariant.source_kept)
-    (going_part whole behind held at left left_now left_now before mid now [] so c.loop-moved.invariant.opened (sym (prepend_nothing left_now)) part))
+    cut
+    (going_part whole behind held at left left_now left_now before mid now [] (g.S.Source.faults c.args.input.now.source) (g.S.Source.faults c.loop-moved.input.source) (g.S.Source.faults c.go_on.new.input.source)
+    so c.loop-moved.invariant.there (sym (prepend_nothing left_now)) c.loop-moved.invariant.source_faults
+    (still_quiet at left_now left_now (g.S.Source.faults c.loop-moved.input.source) (g.S.Source.faults c.go_on.new.input.source) refl c.in-Refused.ensures.goes.count) part))
     (some_cut c.cut_off-in-Refused.result.status whole behind held at left left_now before mid now cut so part)
     (c.go_on.ensures.tells ∙ c.loop-moved.invariant.tells)
 
@@ -75,12 +80,18 @@ returns-in-Ended-clause-source g c =
     let at = c.loop-moved.input.at in
     let sent = going_sends whole behind c.loop-moved.buffer.text c.go_on.new.buffer.text at left (g.S.Source.left c.loop-moved.input.source) before
     (g.K.Sink.written c.loop-moved.sink) mid c.loop-moved.invariant.going c.in-Ended.ensures.sends in
-    let fault_count : HasFaults at (Ended c.in-Ended.end) (g.S.Source.faults c.args.input.now.source) (g.S.Source.faults c.go_on.new.input.source) =
-    subst (λ (n : ℕ). HasFaults at (Ended c.in-Ended.end) n (g.S.Source.faults c.go_on.new.input.source)) c.loop-moved.invariant.source_kept c.in-Ended.ensures.goes.counts in
+    let ends : EndsSo at (g.S.Source.left c.loop-moved.input.source) (g.S.Source.left c.go_on.new.input.source) c.in-Ended.end
+    (g.S.Source.faults c.args.input.now.source) (g.S.Source.faults c.loop-moved.input.source) (g.S.Source.faults c.go_on.new.input.source) = record {
+      last = c.in-Ended.ensures.goes.next;
+      there = c.loop-moved.invariant.there;
+      counts = c.loop-moved.invariant.source_faults;
+      counts_end = c.in-Ended.ensures.goes.counts;
+      quiet = c.in-Ended.ensures.goes.quiet;
+    } in
     end_tells c.ended-how.result whole behind c.go_on.new.buffer.text at left (g.S.Source.left c.loop-moved.input.source) (g.S.Source.left c.go_on.new.input.source)
     before mid (g.K.Sink.written c.write_end-status.new.sink) c.in-Ended.end c.write_end-status.result
-    (g.S.Source.faults c.args.input.now.source) (g.S.Source.faults c.go_on.new.input.source)
-    sent c.in-Ended.ensures.goes.next c.loop-moved.invariant.opened fault_count c.write_end-status.ensures.ended c.write_end-status.ensures.memory c.write_end-status.ensures.read c.ended-how.ensures
+    (g.S.Source.faults c.args.input.now.source) (g.S.Source.faults c.loop-moved.input.source) (g.S.Source.faults c.go_on.new.input.source)
+    sent ends c.write_end-status.ensures.ended c.write_end-status.ensures.memory c.write_end-status.ensures.read c.ended-how.ensures
     (c.go_on.ensures.tells ∙ c.loop-moved.invariant.tells)
 
 pub returns-in-Ended-clause-how : goal.returns-in-Ended-clause-how
@@ -100,9 +111,9 @@ loop-moved-init g c = record {
       c.requires.fresh c.in-Ok.ensures;
   heading = c.requires.heading ∙ sym (ap heading_at c.requires.fresh);
   rows = omega (arith, c.requires.rows, ap steps_left c.requires.fresh);
-  opened = ap is_open c.requires.fresh;
+  there = never_lost c.args.input.now.at c.requires.fresh;
   tells = refl;
-  source_kept = refl;
+  source_faults = never_read c.args.input.now.at (g.S.Source.faults c.args.input.now.source) c.requires.fresh;
   sink_kept = refl;
 }
 
@@ -127,8 +138,9 @@ loop-moved-preserved g c =
       heading = c.in_default-write_step.ensures.heading ∙ ap (λ (h : Option Heading). heading_after h step) c.loop-moved.invariant.heading
           ∙ heading_goes (heading_at c.loop-moved.input.at) (heading_at new) step has;
       rows = omega (arith, c.in_default-write_step.ensures.rows, c.in-Step.ensures.goes.less, c.loop-moved.invariant.rows);
-      opened = open_by new (heading_at c.loop-moved.input.at) step has;
+      there = c.in-Step.ensures.goes.there;
       tells = c.go_on.ensures.tells ∙ c.loop-moved.invariant.tells;
-      source_kept = c.in-Step.ensures.goes.count ∙ c.loop-moved.invariant.source_kept;
+      source_faults = counts_on c.loop-moved.input.at new (g.S.Source.faults c.args.input.now.source) (g.S.Source.faults c.loop-moved.input.source) (g.S.Source.faults c.go_on.new.input.source)
+          c.loop-moved.invariant.there c.loop-moved.invariant.source_faults c.in-Step.ensures.goes.counts;
       sink_kept = c.in_default-write_step.ensures.kept ∙ (c.in-Step.ensures.cause ∙ c.loop-moved.invariant.sink_kept);
     }

@@ -1,4 +1,4 @@
-use Rattle.std.proofs.Common.{◌≤◌, refl, ap, ◌∙◌, subst, arith}
+use Rattle.std.proofs.Common.{◌≤◌, refl, ap, ◌∙◌, subst, arith, inl, inr}
 use Rattle.importer.specs.Coming.{Importing, Sourced}
 use Rattle.importer.proofs.TurnLemmas.{faults_so, so_closes, so_ends, so_further, starts_held, starts_so, stays_so}
 use Rattle.importer.proofs.import.Import.next_batch.Goals as goal
@@ -14,9 +14,8 @@ loop-layout-init g c =
       less = rw empty (omega arith);
       number = refl;
       rows = refl;
-      going = λ is. is;
       tells = refl;
-      faults = refl;
+      faults = inl (refl, refl);
     }
 
 pub loop-layout-preserved : goal.loop-layout-preserved
@@ -33,9 +32,8 @@ loop-layout-preserved g c =
       less = omega (arith, i.less, t.less.0);
       number = t.same.0 ∙ i.number;
       rows = t.same.1 ∙ i.rows;
-      going = λ is. absurd (t.going is);
       tells = t.tells ∙ i.tells;
-      faults = t.faults.kept t.going ∙ i.faults;
+      faults = inr (t.going, faults_so (λ (s : Sourced Importing g.row.S.Denot). s.at.standing) first mid new (g.S.Source.faults first.source) (g.S.Source.faults mid.source) (g.S.Source.faults new.source) i.faults t.faults);
     }
 
 pub returns-in-Closes-clause-next : goal.returns-in-Closes-clause-next
@@ -52,8 +50,8 @@ returns-in-Closes-clause-faults g c =
     let first = c.args.self.now in
     let mid = c.loop-layout.self in
     let new = c.turn.new.self in
-    faults_so first.at.standing mid.at.standing new.at.standing (g.S.Source.faults first.source) (g.S.Source.faults mid.source) (g.S.Source.faults new.source)
-    c.loop-layout.invariant.going c.loop-layout.invariant.faults c.in-Closes.ensures.faults
+    faults_so (λ (s : Sourced Importing g.row.S.Denot). s.at.standing) first mid new (g.S.Source.faults first.source) (g.S.Source.faults mid.source) (g.S.Source.faults new.source)
+    c.loop-layout.invariant.faults c.in-Closes.ensures.faults
 
 pub returns-in-Ends-None-clause-next : goal.returns-in-Ends-None-clause-next
 returns-in-Ends-None-clause-next g c =
@@ -76,5 +74,13 @@ returns-in-Ends-Some-clause-faults g c =
     let first = c.args.self.now in
     let mid = c.loop-layout.self in
     let new = c.turn.new.self in
-    faults_so first.at.standing mid.at.standing new.at.standing (g.S.Source.faults first.source) (g.S.Source.faults mid.source) (g.S.Source.faults new.source)
-    c.loop-layout.invariant.going c.loop-layout.invariant.faults c.in-Ends-Some.ensures.faults
+    faults_so (λ (s : Sourced Importing g.row.S.Denot). s.at.standing) first mid new (g.S.Source.faults first.source) (g.S.Source.faults mid.source) (g.S.Source.faults new.source)
+    c.loop-layout.invariant.faults c.in-Ends-Some.ensures.faults
+
+pub returns-in-Ends-None-clause-faults : goal.returns-in-Ends-None-clause-faults
+returns-in-Ends-None-clause-faults g c =
+    let first = c.args.self.now in
+    let mid = c.loop-layout.self in
+    let new = c.turn.new.self in
+    faults_so (λ (s : Sourced Importing g.row.S.Denot). s.at.standing) first mid new (g.S.Source.faults first.source) (g.S.Source.faults mid.source) (g.S.Source.faults new.source)
+    c.loop-layout.invariant.faults c.in-Ends-None.ensures.faults

@@ -2,8 +2,7 @@ use Rattle.std.proofs.Common.{Option, None, Some, ap, ◌∙◌, subst}
 use Rattle.std.specs.Option.{option_map}
 use Rattle.vast_value.specs.Headings.{heading_of}
 use Rattle.zeek_log.specs.declared.step.Step.{Step}
-use Rattle.zeek_log.specs.Table.{Head, Line}
-use Rattle.importer.specs.Coming.{Stays, heading_at}
+use Rattle.importer.specs.Coming.{Stays}
 use Rattle.importer.proofs.TurnLemmas.{EndsSo, FitsSo, GivesOn, end_turn, end_turn_holds, end_turn_stays, head_turn, head_turn_holds, line_turn, line_turn_holds, ok_step, row_fits_by, turn_going}
 use Rattle.importer.proofs.import.Import.turn.Goals as goal
 
@@ -94,12 +93,8 @@ returns-in-Err-clause-stays g c =
 
 pub returns-in-Ok-Some-Head-clause-going : goal.returns-in-Ok-Some-Head-clause-going
 returns-in-Ok-Some-Head-clause-going g c =
-    let i = c.self.inside in
-    turn_going c.begin.result (heading_at i.input.at) c.next.new.self.at (Head (heading_of c.in-Ok-Some-Head.layout))
-    (subst (λ (o : Option Step). FitsSo i.input.at c.next.new.self.at (ok_step o)) (c.in-Ok-Some-Head.field-0-is ∙ ap Some c.in-Ok-Some-Head.field-0-0-is) c.in-Ok-Some-Head.ensures.fits)
+    turn_going c.begin.result c.next.new.self.at (subst (λ (o : Option Step). EndsSo c.next.new.self.at (ok_step o)) c.in-Ok-Some-Head.field-0-is c.in-Ok-Some-Head.ensures.ends)
 
 pub returns-in-Ok-clause-going : goal.returns-in-Ok-clause-going
 returns-in-Ok-clause-going g c =
-    let i = c.self.inside in
-    turn_going c.in-Ok.turn (heading_at i.input.at) c.next.new.self.at (Line c.in-Ok-Some-Line.row)
-    (subst (λ (o : Option Step). FitsSo i.input.at c.next.new.self.at (ok_step o)) (c.in-Ok-Some-Line.field-0-is ∙ ap Some c.in-Ok-Some-Line.field-0-0-is) c.in-Ok-Some-Line.ensures.fits)
+    turn_going c.in-Ok.turn c.next.new.self.at (subst (λ (o : Option Step). EndsSo c.next.new.self.at (ok_step o)) c.in-Ok-Some-Line.field-0-is c.in-Ok-Some-Line.ensures.ends)

@@ -33,4 +33,5 @@ returns-in-Ok-clause-next g c =
     let mid : Reading = record { phase = Records c.in-Ok.head 24; held = c.skip.new.self.bytes; taken = c.skip.new.self.taken; kept = c.skip.new.self.kept; given = i.given } in
     begins c.in-Ok.head c.args.self.now mid c.go_on.new.self c.whole_head.new.block.bytes takes.took _ _ _ c.go_on.result
     c.requires refl (ap (λ (h : Hold). h.bytes) c.skip.ensures) (ap (λ (r : Reading). r.given) c.self.view_is)
+    (ap (λ (h : Hold). h.taken) c.skip.ensures ∙ takes.count ∙ ap (λ (r : Reading). r.taken + length takes.took) c.self.view_is)
     (takes.held ∙ ap (λ (r : Reading). r.held ++ takes.took) c.self.view_is) takes.left c.in-Ok.ensures.whole.0 c.in-Ok.ensures.whole.1 c.go_on.ensures.next
