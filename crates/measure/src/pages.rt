@@ -98,6 +98,17 @@ fn fill<S: Source, L: Ledger>(
     steps: &mut Steps<L>,
 ) -> anyhow::Result<Option<u64>> {
     let mut import = Import::start(alloc, 1, 1024, source);
+    fill_from(alloc, &mut import, store, stage, steps)
+}
+
+// The same of an import. It stands by itself so that the import is dropped in one place: each costs minutes to prove.
+fn fill_from<S: Source, L: Ledger>(
+    alloc: Global,
+    import: &mut Import<S>,
+    store: &mut Store,
+    stage: Stage,
+    steps: &mut Steps<L>,
+) -> anyhow::Result<Option<u64>> {
     let mut rows = 0u64;
     for _batch in 0..u64::MAX {
         match import.next_batch() {
