@@ -1,6 +1,5 @@
 -- What a worker's query is told.
-use Rattle.std.proofs.Common.{◌≡◌, ◌≢◌, Result, ℕ, ◌+◌, ◌<◌, ◌≤◌, ◌==◌, ◌||◌, Bool, true, false, cond, if◌then◌else◌, List, [], ◌∷◌, ◌++◌, Option, None, Some, Ok, Err, IsSomeAnd, Contains, length, map, ap, sym, refl, subst, ◌∙◌, append-nil, append_assoc, eq-eqb, ne_eqb, arith, length-append}
-use Rattle.std.specs.List.{list_any}
+use Rattle.std.proofs.Common.{◌≡◌, ◌≢◌, Result, ℕ, ◌+◌, ◌≤◌, ◌==◌, ◌||◌, Bool, true, false, cond, if◌then◌else◌, List, [], ◌∷◌, ◌++◌, Option, None, Some, Ok, Err, IsSomeAnd, Contains, length, map, ap, sym, refl, subst, ◌∙◌, append-nil, append_assoc, eq-eqb, ne_eqb, arith, length-append}
 use Rattle.std.specs.Option.{option_to_list}
 use Rattle.std.specs.Result.{OnErr, OnOk}
 use Rattle.std.specs.declared.alloc.AllocError.{AllocError}
@@ -12,7 +11,7 @@ use Rattle.event_history.specs.declared.entry.Deed.{Deed}
 use Rattle.event_history.specs.declared.entry.Deed.TheVariants as deed
 use Rattle.event_history.specs.declared.entry.Entry.{Entry}
 use Rattle.event_history.specs.declared.entry.Limits.{Limits}
-use Rattle.event_history.specs.Choices.{Taking, taking_at}
+use Rattle.event_history.specs.Choices.{Taking}
 use Rattle.event_history.specs.Delivered.{told_between}
 use Rattle.event_history.specs.Events.{Event, answer}
 use Rattle.event_history.specs.Histories.{event_count, events, past}
@@ -137,7 +136,7 @@ seen_later request a b reply t =
     ∙ ap past (append_assoc a.seen t.since t.new)
     ∙ reverse-append a.seen (t.since ++ t.new)
 
-legal_later : (request : s.Request) (a b : Stands) (reply : Option s.Reply) (t : IsTurn request a b reply) → Legal t.limits (past b.seen)
+pub legal_later : (request : s.Request) (a b : Stands) (reply : Option s.Reply) (t : IsTurn request a b reply) → Legal t.limits (past b.seen)
 legal_later request a b reply t = subst (λ (st : Stands). Legal t.limits (past st.seen)) (sym t.leaves) t.legal
 
 module _ (serve : (limits : Limits) (before : List Entry) → ServesStore limits before) where

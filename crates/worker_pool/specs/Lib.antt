@@ -1,4 +1,9 @@
 pub mod Deeds
+pub mod Feeding
+pub mod Finishing
 pub mod Indexing
 pub mod Paging
+pub mod Registering
 pub mod Sealing
+pub mod Takes
+pub mod Turning

@@ -1,5 +1,5 @@
 //! The pages of a worker's query.
-ghost use Rattle.std.specs.Prelude.{◌≡◌, ◌<◌, ◌++◌, ◌∷◌, [], None, Some, IsSomeAnd, OnErr, OnOk, length, vec_capacity};
+ghost use Rattle.std.specs.Prelude.{◌≡◌, ◌<◌, ◌++◌, ◌∷◌, [], All, None, Some, IsSomeAnd, OnErr, OnOk, length, map, vec_capacity};
 ghost use Rattle.event_history.specs.Histories.{past};
 ghost use Rattle.exporter.specs.Asks.{AgreesWith, KeepsOnly};
 ghost use Rattle.exporter.specs.Pages.{held_by};
@@ -7,7 +7,10 @@ ghost use Rattle.exporter.specs.Stores.{IsCacheOf};
 ghost use Rattle.history_core.specs.Replies.{IsRegisteredAt};
 ghost use Rattle.turn_book.specs.Seats.{book_id, pass_book, pass_standing};
 ghost use Rattle.worker_pool.specs.Paging.{Draws, HasSession, told_of, told_taken};
+ghost use Rattle.worker_pool.specs.Registering.{ends, exprs};
+ghost use Rattle.worker_pool.specs.Takes.{AreApart, IsFree, IsPaged, TakesOn, numbers_of};
 
+use crate::registering::Query;
 use archive_cache::Cache;
 use event_batch::Steps;
 use exporter::{Page, a_cache_serves_a_store, finds_the_answers, finish};
@@ -33,6 +36,80 @@ pub struct QueryEnd {
     /// The limit of queries, where there were as many before it.
     pub too_many: Option<u32>,
     pub pages: Pages,
+}
+
+/// Asks each query on that has a session, in order.
+pub fn page_all<G: Gate, L: Ledger, R: Wait>(
+    rt: &R,
+    alloc: Global,
+    vast: &Vast,
+    pass: &mut Pass,
+    gate: &G,
+    worker: u32,
+    turn: u64,
+    cache: &mut Cache,
+    steps: &mut Steps<L>,
+    queries: &mut [Query],
+) -> Result<(), AllocError>
+    requires book { pass_book pass.old ≡ book_id vast.now.book }
+    requires paged { All (IsPaged (pass_standing pass.old)) (ends queries.old) }
+    requires free { All IsFree (ends queries.old) }
+    requires apart { AreApart (map numbers_of (ends queries.old)) }
+    requires cache { IsCacheOf (past (pass_standing pass.old).seen) cache.old }
+    ensures book { pass_book pass.new ≡ book_id vast.now.book }
+    ensures takes { TakesOn result (ends queries.old) (ends queries.new) (pass_standing pass.old) (pass_standing pass.new) }
+    ensures exprs { exprs queries.new ≡ exprs queries.old }
+    ensures cache { IsCacheOf (past (pass_standing pass.new).seen) cache.new }
+{
+    match queries.split_first_mut() {
+        None => Ok(()),
+        Some((first, rest)) => {
+            page_open(
+                rt,
+                alloc,
+                vast,
+                pass,
+                gate,
+                worker,
+                turn,
+                cache,
+                steps,
+                &mut first.end,
+            )?;
+            page_all(
+                rt, alloc, vast, pass, gate, worker, turn, cache, steps, rest,
+            )
+        }
+    }
+}
+
+/// Asks a query on, if it has a session.
+fn page_open<G: Gate, L: Ledger, R: Wait>(
+    rt: &R,
+    alloc: Global,
+    vast: &Vast,
+    pass: &mut Pass,
+    gate: &G,
+    worker: u32,
+    turn: u64,
+    cache: &mut Cache,
+    steps: &mut Steps<L>,
+    query: &mut QueryEnd,
+) -> Result<(), AllocError>
+    requires book { pass_book pass.old ≡ book_id vast.now.book }
+    requires paged { IsPaged (pass_standing pass.old) query.old }
+    requires free { IsFree query.old }
+    requires cache { IsCacheOf (past (pass_standing pass.old).seen) cache.old }
+    ensures book { pass_book pass.new ≡ book_id vast.now.book }
+    ensures takes { TakesOn result (query.old ∷ []) (query.new ∷ []) (pass_standing pass.old) (pass_standing pass.new) }
+    ensures cache { IsCacheOf (past (pass_standing pass.new).seen) cache.new }
+{
+    if query.session.is_none() {
+        return Ok(());
+    }
+    page_one(
+        rt, alloc, vast, pass, gate, worker, turn, cache, steps, query,
+    )
 }
 
 /// Takes what a query is to be told next, and puts its page behind the others. A query that another has ended stays as it

@@ -6,6 +6,7 @@ use super::*;
 use archive_cache::Cache;
 use event_batch::{Packed, Steps};
 use history_core::{Limits, Mode, Store};
+use importer::{How, Import};
 use query_meaning::{Expr, Literal, Pick, Rel, Test};
 use shared_store::{Pass, Vast};
 use std::alloc::Global;
@@ -13,7 +14,7 @@ use std::marker::Brand;
 use std::sync::Wait;
 use std::sync::ledger::{Blank, Ledger};
 use std::test::Fail;
-use vast_io::OpenGate;
+use vast_io::{MemSource, OpenGate};
 use vast_value::{Bytes, Elem, Transport, Value};
 
 // A batch of one event.
@@ -143,5 +144,95 @@ fn a_query_is_told_the_indexed_past_once(rt: HostRuntime) -> Result<(), Fail> {
     assert!(rt; index_next(&rt, alloc, &vast, &mut pass)?);
     let told = two_pages::<Brand, _>(&rt, alloc, &vast, &mut pass, Blank::new(1))?;
     assert_eq!(rt; told, (1, 1, Some(1)));
+    Ok(())
+}
+
+// The rows accepted of a log by two readings, and how it went after each.
+fn read_twice<R: Wait>(
+    rt: &R,
+    alloc: Global,
+    vast: &Vast,
+    pass: &mut Pass,
+    log: MemSource,
+) -> (u64, How, How)
+    requires { pass_book pass.old ≡ book_id vast.now.book }
+    ensures { pass_book pass.new ≡ book_id vast.now.book }
+{
+    let mut feeds = [Feed {
+        number: 1,
+        import: Import::start(alloc, 1, 2, log),
+        rows: 0,
+        how: How::Unread,
+    }];
+    let _read = read_one(rt, alloc, vast, pass, &mut feeds);
+    let first = feeds[0].how;
+    let _read = read_one(rt, alloc, vast, pass, &mut feeds);
+    (feeds[0].rows, first, feeds[0].how)
+}
+
+fn read_log<R: Wait>(rt: &R, alloc: Global, log: Bytes) -> Result<(u64, How, How), Fail> {
+    let log = MemSource::new(log, 1000, Vec::new(alloc));
+    let (vast, mut root) = Vast::new(alloc, Store::new(alloc, LIMITS))?;
+    let mut pass = vast.split(&mut root)?;
+    Ok(read_twice(rt, alloc, &vast, &mut pass, log))
+}
+
+#[test]
+fn a_source_is_read_a_batch_at_a_time_up_to_its_end_or_the_limit(
+    rt: HostRuntime,
+) -> Result<(), Fail> {
+    let alloc = rt.alloc();
+    let one = read_log(
+        &rt,
+        alloc,
+        Bytes::copy(alloc, b"#path\td\n#fields\tp\n#types\tport\n53\n")?,
+    )?;
+    assert_eq!(rt; one, (1, How::Unread, How::Done));
+    let three = read_log(
+        &rt,
+        alloc,
+        Bytes::copy(alloc, b"#path\td\n#fields\tp\n#types\tport\n53\n53\n53\n")?,
+    )?;
+    assert_eq!(rt; three, (2, How::Unread, How::Full { have: 2, limit: 2 }));
+    Ok(())
+}
+
+fn both(alloc: Global) -> Query {
+    Query {
+        expr: Some(port_53()),
+        end: QueryEnd {
+            label: Bytes::new(alloc),
+            session: None,
+            taken: None,
+            too_many: None,
+            pages: Vec::new(alloc),
+        },
+    }
+}
+
+// The limit that refused each of two queries, and what is left to register of them.
+fn register_two<R: Wait>(
+    rt: &R,
+    alloc: Global,
+    vast: &Vast,
+    pass: &mut Pass,
+) -> Result<[(Option<u32>, bool); 2], Fail>
+    requires { pass_book pass.old ≡ book_id vast.now.book }
+{
+    let mut queries = [both(alloc), both(alloc)];
+    register_all(rt, vast, pass, &mut queries)?;
+    Ok([
+        (queries[0].end.too_many, queries[0].expr.is_some()),
+        (queries[1].end.too_many, queries[1].expr.is_some()),
+    ])
+}
+
+#[test]
+fn no_more_queries_are_registered_than_the_limit(rt: HostRuntime) -> Result<(), Fail> {
+    let alloc = rt.alloc();
+    let (vast, mut root) = Vast::new(alloc, Store::new(alloc, LIMITS))?;
+    let mut pass = vast.split(&mut root)?;
+    let refused = register_two(&rt, alloc, &vast, &mut pass)?;
+    assert_eq!(rt; refused, [(None, false), (Some(1), false)]);
     Ok(())
 }
