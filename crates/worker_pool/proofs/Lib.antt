@@ -3,6 +3,7 @@ pub mod IndexLemmas
 pub mod PageLemmas
 pub mod ReadLemmas
 pub mod RegisterLemmas
+pub mod RunLemmas
 pub mod SealLemmas
 pub mod TakeLemmas
 pub mod TurnLemmas

@@ -4,6 +4,7 @@ pub mod Finishing
 pub mod Indexing
 pub mod Paging
 pub mod Registering
+pub mod Running
 pub mod Sealing
 pub mod Takes
 pub mod Turning

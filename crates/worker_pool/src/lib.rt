@@ -1,4 +1,4 @@
-//! A worker's turn on a store that threads share, and its steps: reading a batch, registering queries, indexing, merging
+//! A worker's turns on a store that threads share, and their steps: reading a batch, registering queries, indexing, merging
 //! and paging.
 //!
 //! Contracts say of each call which entries the worker's pass has made, in order. Others may have made entries of their
@@ -19,4 +19,4 @@ pub use indexing::index_one;
 pub use paging::{Pages, QueryEnd, page_all, page_one};
 pub use registering::{Query, register_all};
 pub use sealing::seal_one;
-pub use turning::make_turn;
+pub use turning::make_turns;
