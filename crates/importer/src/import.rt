@@ -73,6 +73,13 @@ impl<S: Source> Import<S> {
         }
     }
 
+    /// Its source's number.
+    pub fn number(&self) -> u32
+        ensures { result ≡ self.now.at.number }
+    {
+        self.number
+    }
+
     /// The source as it was left.
     pub fn into_source(self) -> S
         ensures { result ≡ self.source }
